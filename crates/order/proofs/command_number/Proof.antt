@@ -1,0 +1,38 @@
+-- `order::command_number` meets its contract.
+use borrow.Author.Needs.{needs}
+use Rattle.order.specs.Command.{commandNumber}
+use Rattle.order.proofs.command_number.Statement.{statement}
+use Rattle.order.proofs.command_number.Tie as tie
+
+enum-told : tie.Need-enum-told
+enum-told c = search needs
+
+enum-told-2 : tie.Need-enum-told-2
+enum-told-2 c = search needs
+
+enum-told-3 : tie.Need-enum-told-3
+enum-told-3 c = search needs
+
+enum-told-4 : tie.Need-enum-told-4
+enum-told-4 c = search needs
+
+returns : tie.Need-returns
+unfolding commandNumber
+returns c = search needs
+
+returns-2 : tie.Need-returns-2
+unfolding commandNumber
+returns-2 c = search needs
+
+returns-3 : tie.Need-returns-3
+unfolding commandNumber
+returns-3 c = search needs
+
+returns-4 : tie.Need-returns-4
+unfolding commandNumber
+returns-4 c = search needs
+
+pub command-number-spec : {M : Type 1} → statement M
+command-number-spec =
+    tie.close
+    (tie.spec enum-told enum-told-2 enum-told-3 enum-told-4 returns returns-2 returns-3 returns-4)

@@ -1,0 +1,33 @@
+-- `order::command_of` meets its contract.
+use borrow.Author.Needs.{needs}
+use borrow.Author.Tests.{ne-eqb}
+use Rattle.order.specs.Command.{commandOf}
+use Rattle.order.proofs.command_of.Statement.{statement}
+use Rattle.order.proofs.command_of.Tie as tie
+use Rattle.order.proofs.command_of.Reads as reads
+use Rattle.order.proofs.command_of.Lts as lts
+
+returns : tie.Need-returns
+unfolding commandOf
+returns c = rw (c .match .keys1)
+
+returns-2 : tie.Need-returns-2
+unfolding commandOf
+returns-2 c = rw (c .match .keys2)
+
+returns-3 : tie.Need-returns-3
+unfolding commandOf
+returns-3 c = rw (c .match .keys3)
+
+returns-4 : tie.Need-returns-4
+unfolding commandOf
+returns-4 c = rw (c .match .keys4)
+
+returns-5 : tie.Need-returns-5
+unfolding commandOf
+returns-5 c =
+    rw
+    (ne-eqb _ 0 (c .match .rest .0 .0 .0 .1), ne-eqb _ 1 (c .match .rest .0 .0 .1), ne-eqb _ 2 (c .match .rest .0 .1), ne-eqb _ 3 (c .match .rest .1))
+
+pub command-of-spec : {M : Type 1} → statement M
+command-of-spec = tie.close (tie.spec returns returns-2 returns-3 returns-4 returns-5)

@@ -1,0 +1,22 @@
+-- The commands of an order by their numbers (document 01, "The tape": 0 read, 1 modified read, 2 invalidate, 3 copyback).
+use Prim.Native.Nat.{ℕ}
+use mathlib.Core.Bool.{cond}
+use lib.Dec.{eqb}
+use Rattle.order.specs.declared.Command.{Command}
+use Rattle.order.specs.declared.Command.the-variants.{Read, ModifiedRead, Invalidate, Copyback}
+use Rattle.order.specs.declared.CommandFound.{CommandFound}
+use Rattle.order.specs.declared.CommandFound.the-variants.{Known, Unknown}
+
+unfoldable pub commandNumber : Command → ℕ
+commandNumber Read = 0
+commandNumber ModifiedRead = 1
+commandNumber Invalidate = 2
+commandNumber Copyback = 3
+
+-- the command that has the number n
+unfoldable pub commandOf : ℕ → CommandFound
+commandOf n =
+    cond (eqb n 0) (Known Read)
+    (cond (eqb n 1) (Known ModifiedRead)
+    (cond (eqb n 2) (Known Invalidate)
+    (cond (eqb n 3) (Known Copyback) Unknown)))

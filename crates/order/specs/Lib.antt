@@ -1,0 +1,3 @@
+-- What the tape and the machine both speak of.
+pub mod Command
+pub mod Refusal

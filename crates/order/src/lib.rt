@@ -1,0 +1,69 @@
+// Bus orders and the numbers of refusal: what the tape and the machine both speak of.
+ghost use mathlib.Core.Path.{_≡_};
+ghost use Rattle.order.specs.Command.{commandNumber, commandOf};
+
+// Document 01, "Numbers of refusal".
+pub const WRONG_SIZE: u8 = 1;
+
+pub const BROKEN_DIRECTORY: u8 = 2;
+
+pub const NO_UNIT: u8 = 3;
+
+pub const BAD_ADDRESS: u8 = 4;
+
+pub const CUT: u8 = 5;
+
+pub const BAD_NUMBER: u8 = 6;
+
+pub const UNKNOWN_KIND: u8 = 7;
+
+pub const FIELD_RANGE: u8 = 8;
+
+pub const NO_ROOM: u8 = 9;
+
+pub const BAD_HANDLER_STATE: u8 = 10;
+
+// What an order asks of the bus.
+pub enum Command {
+    Read,
+    ModifiedRead,
+    Invalidate,
+    Copyback,
+}
+
+// One order on the bus: the unit that gives it, and whether it was answered with a retry.
+pub struct Order {
+    pub unit: u8,
+    pub command: Command,
+    pub block: u8,
+    pub retried: bool,
+}
+
+// The command that has a number, if there is one.
+pub enum CommandFound {
+    Known(Command),
+    Unknown,
+}
+
+pub fn command_number(command: Command) -> u8
+    ensures { λ r. ⌜ r ≡ commandNumber command ⌝ }
+{
+    match command {
+        Command::Read => 0,
+        Command::ModifiedRead => 1,
+        Command::Invalidate => 2,
+        Command::Copyback => 3,
+    }
+}
+
+pub fn command_of(number: u64) -> CommandFound
+    ensures { λ r. ⌜ r ≡ commandOf number ⌝ }
+{
+    match number {
+        0 => CommandFound::Known(Command::Read),
+        1 => CommandFound::Known(Command::ModifiedRead),
+        2 => CommandFound::Known(Command::Invalidate),
+        3 => CommandFound::Known(Command::Copyback),
+        _ => CommandFound::Unknown,
+    }
+}
