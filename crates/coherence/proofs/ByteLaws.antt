@@ -110,3 +110,19 @@ word-block l k o h =
     let at : (i : ℕ) → i < 32 → getD (take 32 (drop (32 * k) l)) i 0 ≡ getD l (32 * k + i) 0 =
     λ i b. getD-take 32 (drop (32 * k) l) i 0 b ∙ getD-drop (32 * k) l i 0 in
     simp (at o (omega arith), at (o + 1) (omega arith), at (o + 2) (omega arith), at (o + 3) (omega arith), add-assoc)
+
+-- ---- words at aligned addresses
+address : (a : ℕ) → a ≡ 32 * (a / 32) + a % 32
+address a = omega arith
+
+-- a word is in one block, and a word that is put changes that block alone
+pub word-in-block : (l : List ℕ) (a : ℕ) → a % 4 ≡ 0 → wordAt l a ≡ wordAt (blockAt l (a / 32)) (a % 32)
+word-in-block l a h = ap (wordAt l) (address a) ∙ word-block l (a / 32) (a % 32) (omega arith)
+
+pub word-elsewhere : (l : List ℕ) (a v : ℕ) → a % 4 ≡ 0
+    → (blockAt (putWord l a v) (a / 32) ≡ putWord (blockAt l (a / 32)) (a % 32) v)
+    × ((b : ℕ) → (b ≡ a / 32 → ⊥) → blockAt (putWord l a v) b ≡ blockAt l b)
+word-elsewhere l a v h = (
+  ap (λ (x : ℕ). blockAt (putWord l x v) (a / 32)) (address a) ∙ word-same l (a / 32) (a % 32) v (omega arith),
+  λ b d. ap (λ (x : ℕ). blockAt (putWord l x v) b) (address a) ∙ word-other l (a / 32) b (a % 32) v (omega arith) d,
+)

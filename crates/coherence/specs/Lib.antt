@@ -7,3 +7,4 @@ pub mod Calls
 pub mod Peek
 pub mod PlainMemory
 pub mod Demand3
+pub mod Snapshot
