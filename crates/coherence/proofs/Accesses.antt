@@ -3,7 +3,7 @@
 use mathlib.Core.Path.{_≡_, refl, sym, ap, _∙_}
 use mathlib.Core.List.{List}
 use mathlib.Core.Bool.{Bool, true, false, cond, not, _&&_, false≢true}
-use mathlib.Core.Logic.{_⊎_, inl, inr, ⊎-elim}
+use mathlib.Core.Logic.{_⊎_, ⊎-elim}
 use Prim.Native.Nat.{ℕ, _+_, _*_, _/_, _%_, _≤_, _<_}
 use native.Mathlib.Omega.{arith}
 use lib.ListN.{length}
@@ -11,19 +11,18 @@ use lib.Dec.{eqb}
 use borrow.Author.Tests.{eqb-true, eqb-false, eq-eqb, ne-eqb}
 use Rattle.order.specs.declared.Command.{Command}
 use Rattle.order.specs.declared.Command.the-variants.{Read, ModifiedRead, Invalidate}
-use Rattle.coherence.specs.declared.Slot.{Slot}
 use Rattle.coherence.specs.declared.Slot.the-variants.{Invalid, Shared, Modified}
 use Rattle.coherence.specs.declared.Directory.{Directory}
 use Rattle.coherence.specs.Bytes.{blockAt, putBlock, wordAt, putWord}
-use Rattle.coherence.specs.Slots.{place, slotAt, setSlot, holds, modified}
+use Rattle.coherence.specs.Slots.{place, slotAt, holds, modified}
 use Rattle.coherence.specs.Access.{Run, give, mark, empty, eachUnit, ask, fill, fetch, expel, claim, cachePlace, write, load, own, store, flush}
 use Rattle.coherence.specs.Snapshot.{replaced}
 use Rattle.coherence.proofs.Cases.{eq-or-ne}
 use Rattle.coherence.proofs.ByteLaws.{length-block, length-putBlock, length-putWord, block-same, block-other, word-same, word-other, word-block, word-in-block, word-elsewhere}
 use Rattle.coherence.proofs.SlotLaws.{size, slot-same, modified-is, is-modified, holds-is, modified-holds, shared-holds, holds-shared, holds-modified, holds-invalid, invalid≢modified, shared≢modified, modified-one, place-lt, place-mod, place-ne}
 use Rattle.coherence.proofs.Weights.{weight, debt-set}
-use Rattle.coherence.proofs.Invariant.{Beside, Inv, Change, change}
-use Rattle.coherence.proofs.Actions.{Keeps, cost, Fewer, Good, good-none, good-then, held-place, give-keeps, give-cost, mark-cost, mark-same, mark-other, mark-keeps, drop-good, empty-good, each-good, ask-keeps}
+use Rattle.coherence.proofs.Invariant.{Beside, change}
+use Rattle.coherence.proofs.Actions.{Keeps, cost, Fewer, Good, good-none, held-place, give-keeps, give-cost, mark-cost, mark-same, mark-other, mark-keeps, drop-good, empty-good, each-good, ask-keeps}
 
 -- ---- a block is fetched
 fill-cost : (e n b : ℕ) (w : Run) → n < size (w .directory) → cost e (fill n b w) ≤ cost e w
@@ -122,10 +121,6 @@ takeOver-keeps p b w f i =
 takeOver-taken : (p : Beside) (b : ℕ) → takeOver p b .taken b ≡ blockAt (p .plain) b
 unfolding takeOver replaced
 takeOver-taken p b = rw (eq-eqb b b refl)
-
-takeOver-plain : (p : Beside) (b : ℕ) → takeOver p b .plain ≡ p .plain
-unfolding takeOver
-takeOver-plain p b = refl
 
 pub claim-keeps : (e : ℕ) (p : Beside) (u b : ℕ) (w : Run) → u < 4 → slotAt (w .directory) (place u b) ≡ Shared b → Keeps p w
     → Keeps (takeOver p b) (claim u b w) × (cost e (claim u b w) ≤ cost e w + e) × (slotAt (claim u b w .directory) (place u b) ≡ Modified b)

@@ -3,7 +3,7 @@
 use mathlib.Core.Path.{_≡_, refl, sym, ap, _∙_}
 use mathlib.Core.List.{List}
 use mathlib.Core.Bool.{Bool, true, false, cond, false≢true}
-use mathlib.Core.Logic.{_⊎_, inl, inr, ⊎-elim}
+use mathlib.Core.Logic.{_⊎_, ⊎-elim}
 use Prim.Native.Nat.{ℕ, _+_, _*_, _/_, _%_, _≤_, _<_}
 use native.Mathlib.Omega.{arith}
 use lib.ListN.{length, length-append}
@@ -15,7 +15,7 @@ use Rattle.coherence.specs.declared.Slot.{Slot}
 use Rattle.coherence.specs.declared.Slot.the-variants.{Invalid, Shared, Modified}
 use Rattle.coherence.specs.declared.Directory.{Directory}
 use Rattle.coherence.specs.Bytes.{blockAt, putBlock}
-use Rattle.coherence.specs.Slots.{place, slotAt, setSlot, holds, ownerOf}
+use Rattle.coherence.specs.Slots.{place, slotAt, holds, ownerOf}
 use Rattle.coherence.specs.Access.{Run, give, mark, writeBack, copyback, emptied, empty, eachUnit, yield, ask}
 use Rattle.coherence.proofs.Cases.{eq-or-ne, four}
 use Rattle.coherence.proofs.ByteLaws.{length-block, length-putBlock, block-same, block-other}

@@ -1,14 +1,14 @@
 -- Laws of blocks and words in a store.
-use mathlib.Core.Path.{_≡_, refl, sym, ap, _∙_}
-use mathlib.Core.List.{List, [], _∷_, _++_, append-assoc}
+use mathlib.Core.Path.{_≡_, sym, ap, _∙_}
+use mathlib.Core.List.{List, [], _++_, append-assoc}
 use mathlib.Core.Logic.{_⊎_, inl, inr, ⊎-elim}
-use Prim.Native.Nat.{ℕ, suc, _+_, _*_, _-_, _/_, _%_, _≤_, _<_}
+use Prim.Native.Nat.{ℕ, _+_, _*_, _-_, _/_, _%_, _≤_, _<_}
 use native.Mathlib.Omega.{arith}
 use native.Mathlib.Nat.{add-assoc}
 use lib.ListN.{length, getD, take, drop, set, length-append, length-take, length-drop, length-set, List·getD-append}
 use lib.Seq.{drop-at, take-at, ext-getD, getD-take, getD-drop, getD-append-add, length-take-le, drop-set-lt, drop-set-add, take-set-le, take-set-lt}
 use Rattle.coherence.specs.Bytes.{blockAt, putBlock, wordAt, putWord}
-use Rattle.coherence.proofs.Cases.{lt-or-le, eq-or-ne}
+use Rattle.coherence.proofs.Cases.{lt-or-le}
 
 pub length-block : (l : List ℕ) (k : ℕ) → 32 * k + 32 ≤ length l → length (blockAt l k) ≡ 32
 unfolding blockAt

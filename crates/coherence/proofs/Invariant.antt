@@ -1,14 +1,13 @@
 -- What the machine keeps, beside a plain memory: the rules of the directory; each held copy is the plain memory's block; a block that no unit has EM
 -- is the plain memory's in memory; and under a block that a unit has EM, memory has what the plain memory had when that unit took it.
-use mathlib.Core.Path.{_≡_, refl, sym, ap, _∙_}
+use mathlib.Core.Path.{_≡_, sym, _∙_}
 use mathlib.Core.List.{List}
-use mathlib.Core.Bool.{Bool, true, false, false≢true}
+use mathlib.Core.Bool.{true, false, false≢true}
 use mathlib.Core.Logic.{_⊎_, inl, inr, ⊎-elim}
-use Prim.Native.Nat.{ℕ, _+_, _*_, _/_, _%_, _≤_, _<_}
-use native.Mathlib.Omega.{arith}
+use Prim.Native.Nat.{ℕ, _%_, _<_}
 use lib.ListN.{length}
 use Rattle.coherence.specs.declared.Slot.{Slot}
-use Rattle.coherence.specs.declared.Slot.the-variants.{Invalid, Shared, Modified}
+use Rattle.coherence.specs.declared.Slot.the-variants.{Modified}
 use Rattle.coherence.specs.declared.Directory.{Directory}
 use Rattle.coherence.specs.Bytes.{blockAt}
 use Rattle.coherence.specs.Slots.{slotAt, setSlot, holds, modified}

@@ -11,4 +11,6 @@ pub mod Invariant
 pub mod Actions
 pub mod Accesses
 pub mod Steps
+pub mod Sessions
 pub mod Theorem
+pub mod Examples

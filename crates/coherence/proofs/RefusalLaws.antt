@@ -1,6 +1,6 @@
 -- The order of the tests, spelled out, and what a call knows that none of them refused.
 use mathlib.Core.Path.{_≡_, refl}
-use mathlib.Core.Bool.{Bool, true, false, cond, _&&_}
+use mathlib.Core.Bool.{Bool, true, false, cond}
 use mathlib.Core.List.{List}
 use Prim.Native.Nat.{ℕ, suc, _%_, _≤_}
 use native.Mathlib.Omega.{arith}

@@ -6,18 +6,16 @@ use mathlib.Core.Bool.{Bool, true, false, cond, _&&_}
 use Prim.Native.Nat.{ℕ, _+_, _*_, _/_, _%_, _≤_, _<_}
 use native.Mathlib.Omega.{arith}
 use lib.ListN.{length}
-use lib.Dec.{leb, eqb}
-use borrow.Author.Tests.{eqb-true, leb-true}
-use Rattle.coherence.specs.declared.Slot.the-variants.{Modified}
+use lib.Dec.{eqb}
 use Rattle.coherence.specs.declared.Directory.{Directory}
 use Rattle.coherence.specs.declared.Call.{Call}
 use Rattle.coherence.specs.declared.Call.the-variants.{Load, Store, Flush}
 use Rattle.coherence.specs.declared.Answer.{Answer}
 use Rattle.coherence.specs.Bytes.{blockAt, putWord}
-use Rattle.coherence.specs.Slots.{place, slotAt, slotOf, holds, modified, sound, Exclusive}
+use Rattle.coherence.specs.Slots.{place, slotAt, slotOf, modified, sound, Exclusive}
 use Rattle.coherence.specs.Access.{Run, ready, flush}
 use Rattle.coherence.specs.Refusal.{isUnit}
-use Rattle.coherence.specs.Calls.{unitOf, isTarget, refusal, act, loaded, after, valueOf, packed, answer, memoryAfter, cacheAfter}
+use Rattle.coherence.specs.Calls.{unitOf, isTarget, refusal, act, loaded, after, valueOf, answer, memoryAfter, cacheAfter}
 use Rattle.coherence.specs.PlainMemory.{Reply, plainAccepts, plainPut, plainNumber, plainAfter, plainReply, plainReplies, plainAfterAll}
 use Rattle.coherence.specs.Demand3.{Answered, Ran, reply, ordersIn, ordersGiven, acceptedOf, Each}
 use Rattle.coherence.specs.Snapshot.{replaced, takenBy, takenAfter, takenAfterAll}

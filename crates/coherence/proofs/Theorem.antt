@@ -1,14 +1,12 @@
 -- Demand 3, and what goes with it: peek shows the plain memory, and memory under an EM block.
-use mathlib.Core.Path.{_≡_, refl, sym, ap, _∙_}
+use mathlib.Core.Path.{_≡_, refl, sym, _∙_}
 use mathlib.Core.List.{List, [], _∷_}
 use mathlib.Core.Bool.{Bool, true, false, cond, false≢true}
 use mathlib.Core.Logic.{⊎-elim}
 use Prim.Native.Nat.{ℕ, _+_, _*_, _≤_, _<_}
 use native.Mathlib.Omega.{arith}
 use lib.ListN.{length, replicate, length-replicate}
-use lib.Dec.{ltb, eqb}
 use borrow.Author.Tests.{lt-ltb, le-ltb, le-leb, eq-eqb}
-use Rattle.coherence.specs.declared.Slot.the-variants.{Modified}
 use Rattle.coherence.specs.declared.Directory.{Directory}
 use Rattle.coherence.specs.declared.Call.{Call}
 use Rattle.coherence.specs.declared.Call.the-variants.{Load, Store, Flush}
@@ -16,17 +14,17 @@ use Rattle.coherence.specs.declared.Answer.{Answer}
 use Rattle.coherence.specs.declared.Start.{Start}
 use Rattle.coherence.specs.Bytes.{blockAt}
 use Rattle.coherence.specs.Slots.{place, slotAt, holds, ownerOf, coldDirectory}
-use Rattle.coherence.specs.Refusal.{isBlock, startRefusal, peekRefusal}
-use Rattle.coherence.specs.Calls.{startAnswer, cacheStarted}
+use Rattle.coherence.specs.Refusal.{isBlock, peekRefusal}
 use Rattle.coherence.specs.Peek.{fromCache, newestBlock, newest, peeked}
-use Rattle.coherence.specs.PlainMemory.{plainAccepts, plainAfterAll}
-use Rattle.coherence.specs.Demand3.{Started, Session, Ran, isLoad, isStore, acceptedOf, loads, stores, Demand3, DemandThree, PeekPlain, PeekShowsPlain}
-use Rattle.coherence.specs.Snapshot.{takenAfterAll, MemoryHas, Snapshots}
+use Rattle.coherence.specs.PlainMemory.{plainAccepts}
+use Rattle.coherence.specs.Demand3.{Started, Session, isLoad, isStore, acceptedOf, loads, stores, DemandThree, PeekPlain, PeekShowsPlain}
+use Rattle.coherence.specs.Snapshot.{Snapshots}
 use Rattle.coherence.proofs.SlotLaws.{holds-invalid, invalid≢modified, modified-holds, owner-cases, size-cold, slot-cold}
 use Rattle.coherence.proofs.RefusalLaws.{peek-tests, sized-true, start-passed}
 use Rattle.coherence.proofs.Weights.{debt, debt-cold}
 use Rattle.coherence.proofs.Invariant.{Beside, Inv}
 use Rattle.coherence.proofs.Actions.{none-em}
+use Rattle.coherence.proofs.Sessions.{start-accepted, start-directory, start-cache}
 use Rattle.coherence.proofs.Steps.{inv-sound, inv-exclusive, charge, besideAfterAll, Over, run}
 
 -- ---- the cold start
@@ -51,21 +49,9 @@ cold-keeps m h =
     empty : (n b : ℕ) → holds (slotAt coldDirectory n) b ≡ true → ⊥
     empty n b t = false≢true (sym (holds-invalid b) ∙ (rw (slot-cold n) at t))
 
-module _ (m : List ℕ) (s : Start) (k k′ : List ℕ) (h : Started m k s k′) (a : s .refusal ≡ 0) where
-  start-accepted : startRefusal m k ≡ 0
-  unfolding startAnswer
-  start-accepted = sym (ap (λ (x : Start). x .refusal) (h .answers)) ∙ a
-
-  start-directory : s .directory ≡ coldDirectory
-  unfolding startAnswer
-  start-directory = ap (λ (x : Start). x .directory) (h .answers)
-
-  start-cache : k′ ≡ replicate 2048 0
-  unfolding cacheStarted
-  start-cache = h .cache ∙ rw (eq-eqb (startRefusal m k) 0 start-accepted)
-
-  start-keeps : Inv (atFirst m) (s .directory) m k′
-  start-keeps = rw (start-directory, start-cache) (cold-keeps m (start-passed m k start-accepted .0))
+start-keeps : (m : List ℕ) (s : Start) (k k′ : List ℕ) → Started m k s k′ → s .refusal ≡ 0 → Inv (atFirst m) (s .directory) m k′
+start-keeps m s k k′ h a =
+    rw (start-directory m s k k′ h a, start-cache m s k k′ h a) (cold-keeps m (start-passed m k (start-accepted m s k k′ h a) .0))
 
 -- ---- the whole session
 module _ (m : List ℕ) (s : Start) (cs : List Call) (rs : List Answer) (d′ : Directory) (m′ k′ : List ℕ) (h : Session m s cs rs d′ m′ k′) where

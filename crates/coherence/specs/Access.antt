@@ -10,7 +10,7 @@ use Rattle.order.specs.declared.Order.{Order}
 use Rattle.coherence.specs.declared.Slot.{Slot}
 use Rattle.coherence.specs.declared.Slot.the-variants.{Invalid, Shared, Modified}
 use Rattle.coherence.specs.declared.Directory.{Directory}
-use Rattle.coherence.specs.Bytes.{blockAt, putBlock, wordAt, putWord}
+use Rattle.coherence.specs.Bytes.{blockAt, putBlock, putWord}
 use Rattle.coherence.specs.Slots.{place, slotAt, setSlot, holds, modified, ownerOf}
 
 -- the machine in the middle of a call, with the orders that the call has given so far

@@ -2,7 +2,7 @@
 -- answers that meet the contracts of cold start and of the calls.
 use Prim.Native.Nat.{ℕ, _+_, _*_, _≤_}
 use mathlib.Core.Path.{_≡_}
-use mathlib.Core.Bool.{Bool, cond}
+use mathlib.Core.Bool.{cond}
 use mathlib.Core.List.{List, [], _∷_, map}
 use lib.ListN.{length, take}
 use lib.Dec.{eqb}
@@ -13,10 +13,10 @@ use Rattle.coherence.specs.declared.Call.{Call}
 use Rattle.coherence.specs.declared.Call.the-variants.{Load, Store, Flush}
 use Rattle.coherence.specs.declared.Answer.{Answer}
 use Rattle.coherence.specs.declared.Start.{Start}
-use Rattle.coherence.specs.Bytes.{blockAt}
+use Rattle.coherence.specs.Bytes.{storeSize, blockAt}
 use Rattle.coherence.specs.Slots.{Exclusive}
 use Rattle.coherence.specs.Refusal.{peekRefusal}
-use Rattle.coherence.specs.Calls.{answer, memoryAfter, cacheAfter, startAnswer, cacheStarted}
+use Rattle.coherence.specs.Calls.{answer, memoryAfter, cacheAfter, startAnswer, cacheStarted, answersCold, afterCold}
 use Rattle.coherence.specs.Peek.{peeked}
 use Rattle.coherence.specs.PlainMemory.{Reply, plainAccepts, plainReplies, plainAfterAll}
 
@@ -109,6 +109,12 @@ DemandThree =
     → Session m s cs rs e m′ k′ → Demand3 m s cs rs
 
 -- ---- beside it
+
+-- the claim is about something: every memory store of 2,048 bytes and every list of calls has its session, and its answers are these alone
+pub record Sessions (m : List ℕ) (cs : List Call) : Type 0 where
+  pub some : (k : List ℕ) → length m ≡ storeSize → length k ≡ storeSize
+      → Session m (startAnswer m k) cs (answersCold m cs) (afterCold m cs .directory) (afterCold m cs .memory) (afterCold m cs .cache)
+  pub one : (s : Start) (rs : List Answer) (e : Directory) (m′ k′ : List ℕ) → Session m s cs rs e m′ k′ → rs ≡ answersCold m cs
 
 -- "Each call answers with its orders in sequence, at most four"
 unfoldable pub AtMostFour : Type 0

@@ -8,3 +8,4 @@ pub mod Peek
 pub mod PlainMemory
 pub mod Demand3
 pub mod Snapshot
+pub mod Examples
