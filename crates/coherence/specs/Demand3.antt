@@ -16,7 +16,7 @@ use Rattle.coherence.specs.declared.Start.{Start}
 use Rattle.coherence.specs.Bytes.{storeSize, blockAt}
 use Rattle.coherence.specs.Slots.{Exclusive}
 use Rattle.coherence.specs.Refusal.{peekRefusal}
-use Rattle.coherence.specs.Calls.{answer, memoryAfter, cacheAfter, startAnswer, cacheStarted, answersCold, afterCold}
+use Rattle.coherence.specs.Calls.{answer, memoryAfter, cacheAfter, startAnswer, cacheStarted, after, answersCold, afterCold}
 use Rattle.coherence.specs.Peek.{peeked}
 use Rattle.coherence.specs.PlainMemory.{Reply, plainAccepts, plainReplies, plainAfterAll}
 
@@ -116,9 +116,18 @@ pub record Sessions (m : List ℕ) (cs : List Call) : Type 0 where
       → Session m (startAnswer m k) cs (answersCold m cs) (afterCold m cs .directory) (afterCold m cs .memory) (afterCold m cs .cache)
   pub one : (s : Start) (rs : List Answer) (e : Directory) (m′ k′ : List ℕ) → Session m s cs rs e m′ k′ → rs ≡ answersCold m cs
 
--- "Each call answers with its orders in sequence, at most four"
-unfoldable pub AtMostFour : Type 0
-AtMostFour = (d : Directory) (m k : List ℕ) (c : Call) → answer d m k c .orders .count ≤ 4
+-- "Each call answers with its orders in sequence, at most four": the orders in the answer are those that the access rules give the call
+pub record AnswersOrders (d : Directory) (m k : List ℕ) (c : Call) : Type 0 where
+  pub few : length (ordersIn (answer d m k c)) ≤ 4
+  pub rules : ordersIn (answer d m k c) ≡ after d m k c .orders
+
+-- "A refused call gives its number, no orders, .. every other number 0 .., and leaves directory, .. stores .. unchanged."
+pub record Refused (d : Directory) (m k : List ℕ) (c : Call) : Type 0 where
+  pub value : answer d m k c .value ≡ 0
+  pub orders : ordersIn (answer d m k c) ≡ []
+  pub directory : answer d m k c .directory ≡ d
+  pub memory : memoryAfter d m k c ≡ m
+  pub cache : cacheAfter d m k c ≡ k
 
 -- after any list of calls, peek of any block up to 63 is not refused and shows the plain memory's 32 bytes
 pub record PeekPlain (p : List ℕ) (e : Directory) (m k : List ℕ) (b : ℕ) : Type 0 where
