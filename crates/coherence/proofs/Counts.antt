@@ -139,7 +139,9 @@ unfolding ordersIn answer packed
 orders-in d m k c = take-front (after d m k c .orders) (after-given d m k c)
 
 pub answers-orders : (d : Directory) (m k : List ℕ) (c : Call) → AnswersOrders d m k c
-answers-orders d m k c = record { few = rw (orders-in d m k c) (after-given d m k c); rules = orders-in d m k c }
+unfolding answer packed
+answers-orders d m k c =
+    record { few = after-given d m k c; counted = ap (λ (os : List Order). length os) (orders-in d m k c); rules = orders-in d m k c }
 
 -- ---- a refused call
 ready-left : (d : Directory) (m k : List ℕ)

@@ -17,7 +17,7 @@ use Rattle.coherence.specs.Slots.{place, slotAt, holds, ownerOf, coldDir
 use Rattle.coherence.specs.Refusal.{isBlock, peekRefusal}
 use Rattle.coherence.specs.Peek.{fromCache, newestBlock, newest, peeked}
 use Rattle.coherence.specs.PlainMemory.{plainAccepts}
-use Rattle.coherence.specs.Demand3.{Started, Session, isLoad, isStore, acceptedOf, loads, stores, DemandThree, PeekPlain, PeekShowsPlain}
+use Rattle.coherence.specs.Demand3.{Started, Session, isLoad, isStore, acceptedOf, loads, stores, Demand3Holds, PeekPlain, PeekShowsPlain}
 use Rattle.coherence.specs.Snapshot.{Snapshots}
 use Rattle.coherence.proofs.SlotLaws.{holds-invalid, invalid≢modified, modified-holds, owner-cases, size-cold, slot-cold}
 use Rattle.coherence.proofs.RefusalLaws.{peek-tests, sized-true, start-passed}
@@ -84,8 +84,8 @@ charges (c ∷ cs) = go (plainAccepts c) (charges cs)
     go false r = omega arith
 
 -- ---- demand 3
-pub demand3 : DemandThree
-unfolding DemandThree loads stores atFirst
+pub demand3 : Demand3Holds
+unfolding Demand3Holds loads stores atFirst
 demand3 m s cs rs d′ m′ k′ h =
     let o : Over 2 (atFirst m) (s .directory) cs rs d′ m′ k′ = whole m s cs rs d′ m′ k′ h in
     record {

@@ -77,7 +77,7 @@ isStore (Load u a) = 0
 isStore (Store u a v) = 1
 isStore (Flush u b) = 0
 
--- how many of the calls the plain memory accepts, counted by f
+-- the sum of f over the calls that the plain memory accepts
 unfoldable pub acceptedOf : (Call → ℕ) → List Call → ℕ
 acceptedOf f [] = 0
 acceptedOf f (c ∷ cs) = cond (plainAccepts c) (f c) 0 + acceptedOf f cs
@@ -102,9 +102,9 @@ pub record Demand3 (m : List ℕ) (s : Start) (cs : List Call) (rs : List Answer
   -- the bill: the orders in the answers are at most one for each accepted load and three for each accepted store
   pub bill : ordersGiven rs ≤ loads cs + 3 * stores cs
 
--- demand 3
-unfoldable pub DemandThree : Type 0
-DemandThree =
+-- demand 3, of every session
+unfoldable pub Demand3Holds : Type 0
+Demand3Holds =
     (m : List ℕ) (s : Start) (cs : List Call) (rs : List Answer) (e : Directory) (m′ k′ : List ℕ)
     → Session m s cs rs e m′ k′ → Demand3 m s cs rs
 
@@ -118,7 +118,8 @@ pub record Sessions (m : List ℕ) (cs : List Call) : Type 0 where
 
 -- "Each call answers with its orders in sequence, at most four": the orders in the answer are those that the access rules give the call
 pub record AnswersOrders (d : Directory) (m k : List ℕ) (c : Call) : Type 0 where
-  pub few : length (ordersIn (answer d m k c)) ≤ 4
+  pub few : answer d m k c .orders .count ≤ 4
+  pub counted : length (ordersIn (answer d m k c)) ≡ answer d m k c .orders .count
   pub rules : ordersIn (answer d m k c) ≡ after d m k c .orders
 
 -- "A refused call gives its number, no orders, .. every other number 0 .., and leaves directory, .. stores .. unchanged."
