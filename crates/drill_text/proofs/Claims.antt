@@ -1,18 +1,18 @@
 -- The claims about the drill of every tape.
-use Prim.Native.Nat.{ℕ, zero, suc, _+_, _-_, _*_, _≤_, _<_}
+use Prim.Native.Nat.{ℕ, zero, suc, _+_, _-_, _≤_, _<_}
 use native.Mathlib.Nat.{zero-add, suc-add}
 use native.Mathlib.Omega.{arith}
 use mathlib.Core.Path.{_≡_, refl, ap, sym, _∙_}
-use mathlib.Core.Bool.{Bool, true, false, cond}
+use mathlib.Core.Bool.{true, cond}
 use mathlib.Core.List.{List, [], _∷_, map}
-use lib.Dec.{leb, eqb}
+use lib.Dec.{leb}
 use lib.ListN.{length, length-replicate}
 use borrow.Author.Tests.{eqb-true}
 use Rattle.coherence.specs.declared.Call.{Call}
 use Rattle.coherence.specs.declared.Directory.{Directory}
 use Rattle.coherence.specs.declared.Answer.{Answer}
 use Rattle.coherence.specs.PlainMemory.{plainAccepts, plainReply, plainAfter, plainReplies}
-use Rattle.coherence.specs.Calls.{answer, memoryAfter, cacheAfter, answers, answersCold, afterCold, startAnswer}
+use Rattle.coherence.specs.Calls.{answer, memoryAfter, cacheAfter, answers, answersCold, startAnswer}
 use Rattle.coherence.specs.Demand3.{Demand3, Demand3Holds, ordersIn, ordersGiven, reply, Each}
 use Rattle.coherence.proofs.Sessions.{sessions}
 use Rattle.coherence.proofs.Theorem.{demand3}
@@ -23,7 +23,7 @@ use Rattle.tape.specs.declared.record.RecordRead.the-variants as read
 use Rattle.tape.specs.Record.{recordAt, kindOf}
 use Rattle.drill_text.specs.declared.run.Access.{Access}
 use Rattle.drill_text.specs.declared.run.Access.the-variants.{Asks, Other}
-use Rattle.drill_text.specs.Records.{Reading, andMore, readOn, readFrom, readAll, accessOf, andCalls, callsOf}
+use Rattle.drill_text.specs.Records.{andMore, readOn, readFrom, readAll, accessOf, andCalls, callsOf}
 use Rattle.drill_text.specs.Drill.{zeroStore, callsIn, answersIn}
 use Rattle.drill_text.specs.Claims.{accesses, shown, sum, Claims}
 use Rattle.drill_text.proofs.RecordLaws.{Accepted, record-place, record-accepted}

@@ -1,14 +1,12 @@
 -- How long a line is at most.
-use Prim.Native.Nat.{ℕ, suc, _+_, _^_, _≤_, _<_}
+use Prim.Native.Nat.{ℕ, suc, _^_, _≤_, _<_}
 use native.Mathlib.Omega.{arith}
-use mathlib.Core.List.{List, _++_}
 use lib.ListN.{length, length-append}
 use Rattle.coherence.specs.declared.Call.{Call}
 use Rattle.coherence.specs.declared.Call.the-variants.{Load, Store, Flush}
 use Rattle.coherence.specs.declared.Answer.{Answer}
 use Rattle.coherence.specs.Demand3.{ordersIn}
 use Rattle.text.specs.Space.{ascii}
-use Rattle.text.specs.Decimal.{decimal}
 use Rattle.text.proofs.DecimalLaws.{at-most}
 use Rattle.drill_text.specs.declared.run.Access.the-variants.{Asks}
 use Rattle.drill_text.specs.Line.{field, accessPart, ordersPart, callLine}

@@ -3,9 +3,8 @@ use Prim.Native.Nat.{ℕ, suc, _+_, _≤_, _<_}
 use native.Mathlib.Nat.{add-zero}
 use native.Mathlib.Omega.{arith}
 use mathlib.Core.Path.{_≡_, refl, ap, sym, subst, _∙_}
-use mathlib.Core.List.{List, [], _∷_, _++_, append-assoc}
+use mathlib.Core.List.{List, [], append-assoc}
 use lib.ListN.{length}
-use lib.Seq.{sets}
 use Rattle.coherence.specs.declared.Call.{Call}
 use Rattle.coherence.specs.declared.Directory.{Directory}
 use Rattle.coherence.specs.declared.Answer.{Answer}
@@ -13,10 +12,9 @@ use Rattle.coherence.specs.Calls.{answer, answers, memoryAfter, cacheAfter}
 use Rattle.coherence.specs.Demand3.{ordersIn, ordersGiven}
 use Rattle.coherence.proofs.Counts.{answers-orders}
 use Rattle.tape.specs.declared.record.Record.{Record}
-use Rattle.drill_text.specs.declared.run.Access.{Access}
 use Rattle.drill_text.specs.declared.run.Access.the-variants.{Asks, Other}
 use Rattle.drill_text.specs.declared.run.Progress.{Progress}
-use Rattle.drill_text.specs.Records.{Ending, Reading, andMore, andCalls, callsOf, accessOf}
+use Rattle.drill_text.specs.Records.{Ending, andMore, andCalls, callsOf, accessOf}
 use Rattle.drill_text.specs.Line.{accessPart, ordersPart, callLine, lines}
 use Rattle.drill_text.specs.Drill.{lastLine}
 use Rattle.drill_text.specs.Writing.{Puts, textFrom, Called, Short, Took}

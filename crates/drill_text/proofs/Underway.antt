@@ -2,8 +2,8 @@
 use Prim.Native.Nat.{ℕ, zero, suc, _+_, _*_, _≤_, _<_}
 use native.Mathlib.Nat.{add-zero}
 use native.Mathlib.Omega.{arith}
-use mathlib.Core.Path.{_≡_, refl, ap, sym, subst, _∙_}
-use mathlib.Core.List.{List, [], _∷_, _++_, append-assoc}
+use mathlib.Core.Path.{_≡_, refl, _∙_}
+use mathlib.Core.List.{List, [], _++_, append-assoc}
 use lib.ListN.{length}
 use Rattle.tape.specs.declared.record.Record.{Record}
 use Rattle.tape.specs.declared.record.RecordRead.{RecordRead}
@@ -12,9 +12,9 @@ use Rattle.tape.specs.Record.{recordAt}
 use Rattle.coherence.specs.Calls.{answers}
 use Rattle.coherence.specs.Demand3.{ordersGiven}
 use Rattle.drill_text.specs.declared.run.Progress.{Progress}
-use Rattle.drill_text.specs.Records.{Reading, andMore, readOn, readFrom, readAll, callsOf, accessOf}
+use Rattle.drill_text.specs.Records.{readOn, readFrom, readAll, callsOf}
 use Rattle.drill_text.specs.Line.{lines, totalLine, refusedLine}
-use Rattle.drill_text.specs.Drill.{lastLine, tapeMost, textMost}
+use Rattle.drill_text.specs.Drill.{lastLine}
 use Rattle.drill_text.specs.Writing.{Puts, textFrom, Took}
 use Rattle.drill_text.proofs.WritingLaws.{both}
 use Rattle.drill_text.proofs.StepLaws.{nothing}

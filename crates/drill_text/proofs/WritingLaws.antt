@@ -1,10 +1,9 @@
 -- Laws of writing part after part.
 use Prim.Native.Nat.{ℕ, _+_, _≤_}
 use native.Mathlib.Omega.{arith}
-use mathlib.Core.Path.{_≡_, refl, ap, sym, _∙_}
+use mathlib.Core.Path.{_≡_, ap, sym, _∙_}
 use mathlib.Core.List.{List, _++_}
 use lib.ListN.{length, length-append}
-use lib.Seq.{sets}
 use borrow.Author.Tests.{le-leb}
 use Rattle.text.specs.Space.{placed}
 use Rattle.text.proofs.SpaceLaws.{sets-append, placed-room}

@@ -35,7 +35,7 @@ unfoldable pub readFrom : ℕ → List ℕ → ℕ → Reading
 readFrom zero tape at = record { records = []; ending = finished }
 readFrom (suc n) tape at = readOn (recordAt tape at) (readFrom n tape)
 
--- the whole tape. A record is not empty, so that many steps come to its end (`steps-suffice`)
+-- the whole tape. A record is not empty, so that many steps come to its end (`ends` of specs/Claims.antt)
 unfoldable pub readAll : List ℕ → Reading
 readAll tape = readFrom (suc (length tape)) tape 0
 

@@ -1,5 +1,4 @@
 // The lines of a drill. Each function puts a part of the text at the place `at` of `out`, if it has room, and answers the place after it.
-ghost use mathlib.Core.Path.{_≡_};
 ghost use Prim.Native.Nat.{_+_, _≤_, _<_, _^_};
 ghost use mathlib.Core.List.{_++_};
 ghost use lib.ListN.{length};
@@ -64,24 +63,44 @@ pub(crate) fn put_orders(out: &mut [u8], at: usize, orders: u64) -> usize
     put(out, third, b"\n")
 }
 
+// A line of two numbers, each after a word, and a last word.
+fn put_pair(
+    out: &mut [u8],
+    at: usize,
+    first: &[u8],
+    a: u64,
+    second: &[u8],
+    b: u64,
+    last: &[u8],
+) -> usize
+    requires { ⌜ (at < 2 ^ 38) × (length (now first) ≤ 7) × (length (now second) ≤ 7) × (length (now last) ≤ 8) ⌝ }
+    ensures { λ r. ⌜ Puts (now (first .entry) ++ field a ++ now (second .entry) ++ field b ++ now (last .entry)) (now (out .entry)) at (now (out .exit)) r × (r ≤ at + 64) ⌝ }
+{
+    let p = put(out, at, first);
+    let q = put_field(out, p, a);
+    let r = put(out, q, second);
+    let s = put_field(out, r, b);
+    put(out, s, last)
+}
+
 pub(crate) fn put_total(out: &mut [u8], at: usize, calls: u64, orders: u64) -> usize
     requires { ⌜ at < 2 ^ 38 ⌝ }
     ensures { λ r. ⌜ Puts (totalLine calls orders) (now (out .entry)) at (now (out .exit)) r × (r ≤ at + 64) ⌝ }
 {
-    let second = put(out, at, b"total");
-    let third = put_field(out, second, calls);
-    let fourth = put(out, third, b" calls");
-    let fifth = put_field(out, fourth, orders);
-    put(out, fifth, b" orders\n")
+    put_pair(out, at, b"total", calls, b" calls", orders, b" orders\n")
 }
 
 pub(crate) fn put_refused(out: &mut [u8], at: usize, number: u8, place: usize) -> usize
     requires { ⌜ at < 2 ^ 38 ⌝ }
     ensures { λ r. ⌜ Puts (refusedLine number place) (now (out .entry)) at (now (out .exit)) r × (r ≤ at + 64) ⌝ }
 {
-    let second = put(out, at, b"refused");
-    let third = put_field(out, second, number as u64);
-    let fourth = put(out, third, b" at");
-    let fifth = put_field(out, fourth, place as u64);
-    put(out, fifth, b"\n")
+    put_pair(
+        out,
+        at,
+        b"refused",
+        number as u64,
+        b" at",
+        place as u64,
+        b"\n",
+    )
 }

@@ -9,7 +9,7 @@ use lib.Dec.{ltb, lit<}
 use mathlib.Core.List.{List, [], _∷_, _++_}
 use borrow.Author.Tests.{lt-ltb, le-ltb, ltb-true, ltb-false}
 use lib.ListN.{length, getD, length-append, List·getD-append}
-use Rattle.text.specs.Decimal.{digitsIn, decimal, meaningAfter, meaning, Digits}
+use Rattle.text.specs.Decimal.{digitsIn, decimal, meaningAfter, meaning, Digits, Spelling}
 
 lt-or-le : (a b : ℕ) → (a < b) ⊎ (b ≤ a)
 lt-or-le a b = go (ltb a b) refl
@@ -63,9 +63,6 @@ at-most k n h = short 20 k n h
 pub at-most-20 : (n : ℕ) → n < 2 ^ 64 → length (decimal n) ≤ 20
 at-most-20 n h = at-most 19 n (omega arith)
 
-pub at-most-10 : (n : ℕ) → n < 2 ^ 32 → length (decimal n) ≤ 10
-at-most-10 n h = at-most 9 n (omega arith)
-
 -- one digit more means ten times as much, and the digit
 meaning-snoc : (s : List ℕ) (v d : ℕ) → meaningAfter v (s ++ (d ∷ [])) ≡ 10 * meaningAfter v s + (d - 48)
 unfolding meaningAfter
@@ -81,11 +78,6 @@ digits-mean (suc f) n h =
     (λ l. rw (le-ltb n 10 l, meaning-snoc (digitsIn (suc f) (n / 10)) 0 (48 + n % 10)) (let i = digits-mean f (n / 10) (tenth f n h) in rw i (omega arith)))
     (lt-or-le n 10)
 
--- the decimal text of a 64-bit number means that number
-pub decimal-means : (n : ℕ) → n < 2 ^ 64 → meaning (decimal n) ≡ n
-unfolding decimal
-decimal-means n h = digits-mean 19 n (omega arith)
-
 some-digit : (f n : ℕ) → 0 < length (digitsIn (suc f) n)
 unfolding digitsIn
 some-digit f n =
@@ -93,11 +85,6 @@ some-digit f n =
     (λ l. rw (lt-ltb n 10 l) (omega arith))
     (λ l. rw (le-ltb n 10 l, length-append) (omega arith))
     (lt-or-le n 10)
-
--- there is at least one digit
-pub at-least-one : (n : ℕ) → 0 < length (decimal n)
-unfolding decimal
-at-least-one n = some-digit 19 n
 
 first-digit : (f n : ℕ) → n < 10 ^ suc f → 0 < n → 48 < getD (digitsIn (suc f) n) 0 0
 unfolding digitsIn
@@ -107,15 +94,6 @@ first-digit (suc f) n h p =
     (λ l. rw (lt-ltb n 10 l) (omega arith))
     (λ l. rw (le-ltb n 10 l, List·getD-append (digitsIn (suc f) (n / 10)) ((48 + n % 10) ∷ []) 0 0 (some-digit f (n / 10))) (first-digit f (n / 10) (tenth f n h) (omega arith)))
     (lt-or-le n 10)
-
--- a number above 0 has no 0 in front
-pub no-leading-zero : (n : ℕ) → n < 2 ^ 64 → 0 < n → 48 < getD (decimal n) 0 0
-unfolding decimal
-no-leading-zero n h p = first-digit 19 n (omega arith) p
-
--- 0 is one digit
-pub zero-digit : decimal 0 ≡ 48 ∷ []
-zero-digit = one-digit 0 (lit< tt)
 
 digits-snoc : (s : List ℕ) (d : ℕ) → Digits s → d < 10 → Digits (s ++ ((48 + d) ∷ []))
 unfolding Digits
@@ -131,7 +109,16 @@ all-digits (suc f) n =
     (λ l. rw (le-ltb n 10 l) (digits-snoc (digitsIn f (n / 10)) (n % 10) (all-digits f (n / 10)) (omega arith)))
     (lt-or-le n 10)
 
--- each byte is a digit
-pub decimal-digits : (n : ℕ) → Digits (decimal n)
+pub spelling : (n : ℕ) → n < 2 ^ 64 → Spelling n
 unfolding decimal
-decimal-digits n = all-digits 20 n
+spelling n h =
+    let small : n < 10 ^ 20 = omega arith in
+    record {
+      means = digits-mean 19 n small;
+      digits = all-digits 20 n;
+      first = λ p. first-digit 19 n small p;
+      naught = λ e. ap decimal e ∙ one-digit 0 (lit< tt);
+      some = some-digit 19 n;
+      most = at-most-20 n h;
+      short = λ w. at-most 9 n (omega arith);
+    }

@@ -1,6 +1,5 @@
 -- `drill_text::run::run_call` meets its contract.
 use Rattle.drill_text.proofs.StepLaws.{called, answered-few}
-use mathlib.Core.Path.{_≡_, refl, ap, sym, _∙_}
 use native.Mathlib.Omega.{arith}
 use borrow.Author.Needs.{needs}
 use Rattle.drill_text.proofs.run.run_call.Statement.{statement}

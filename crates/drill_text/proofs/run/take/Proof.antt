@@ -1,5 +1,5 @@
 -- `drill_text::run::take` meets its contract.
-use mathlib.Core.Path.{_≡_, sym, _∙_}
+use mathlib.Core.Path.{sym, _∙_}
 use Rattle.drill_text.proofs.StepLaws.{asked, passed}
 use borrow.Author.Needs.{needs}
 use Rattle.drill_text.proofs.run.take.Statement.{statement}
