@@ -21,9 +21,10 @@ use Rattle.tape.specs.declared.record.Record.the-variants as rec
 use Rattle.tape.specs.declared.record.RecordRead.{RecordRead}
 use Rattle.tape.specs.declared.record.RecordRead.the-variants as read
 use Rattle.tape.specs.Record.{recordAt, kindOf}
+use Rattle.tape.specs.RoundTrip.{ReadsAs}
 use Rattle.drill_text.specs.declared.run.Access.{Access}
 use Rattle.drill_text.specs.declared.run.Access.the-variants.{Asks, Other}
-use Rattle.drill_text.specs.Records.{andMore, readOn, readFrom, readAll, accessOf, andCalls, callsOf}
+use Rattle.drill_text.specs.Records.{finished, andMore, readOn, readFrom, readAll, accessOf, andCalls, callsOf}
 use Rattle.drill_text.specs.Drill.{zeroStore, callsIn, answersIn}
 use Rattle.drill_text.specs.Claims.{accesses, shown, sum, Claims}
 use Rattle.drill_text.proofs.RecordLaws.{Accepted, record-place, record-accepted}
@@ -123,6 +124,24 @@ ends-at n t h =
     let k : (n - suc (length t)) + suc (length t) ≡ n = omega arith in
     ap (λ (i : ℕ). readFrom i t 0) (sym k) ∙ many-steps (n - suc (length t)) t
 
+reads-from : (n : ℕ) (t : List ℕ) (at : ℕ) → length t < n + at → at ≤ length t → readFrom n t at .ending ≡ finished → ReadsAs t at (readFrom n t at .records)
+unfolding readFrom readOn andMore ReadsAs
+reads-from zero t at h l e = absurd (omega arith)
+reads-from (suc n) t at h l e = go (recordAt t at) refl (λ next. reads-from n t next) e
+  where
+    go : (x : RecordRead) → recordAt t at ≡ x
+        → ((next : ℕ) → length t < n + next → next ≤ length t → readFrom n t next .ending ≡ finished → ReadsAs t next (readFrom n t next .records))
+        → readOn x (readFrom n t) .ending ≡ finished → ReadsAs t at (readOn x (readFrom n t) .records)
+    go (read.Record r next) q more f =
+        let p = record-place t at r next q in
+        (next, q, more next (omega arith) (p .1) f)
+    go read.Finished q more f = q
+    go (read.Refused number place) q more f = absurd (let z : _≡_ {A = ℕ} 0 1 = cc in omega arith)
+
+reads-all : (tape : List ℕ) → readAll tape .ending ≡ finished → ReadsAs tape 0 (readAll tape .records)
+unfolding readAll
+reads-all tape f = reads-from (suc (length tape)) tape 0 (omega arith) (omega arith) f
+
 in-tape : (tape : List ℕ) → AllAccepted (callsIn tape)
 unfolding callsIn readAll
 in-tape tape = tape-accepted (suc (length tape)) tape 0
@@ -146,5 +165,6 @@ claims tape =
       plain = d .plain;
       total = orders-summed (answersIn tape);
       bill = d .bill;
+      reads = reads-all tape;
       ends = λ n h. ends-at n tape h;
     }

@@ -11,7 +11,8 @@ use Rattle.coherence.specs.PlainMemory.{plainReplies}
 use Rattle.coherence.specs.Demand3.{ordersIn, ordersGiven, reply, loads, stores, Each}
 use Rattle.tape.specs.declared.record.Record.{Record}
 use Rattle.tape.specs.Record.{kindOf}
-use Rattle.drill_text.specs.Records.{readFrom, readAll}
+use Rattle.tape.specs.RoundTrip.{ReadsAs}
+use Rattle.drill_text.specs.Records.{finished, readFrom, readAll}
 use Rattle.drill_text.specs.Drill.{zeroStore, callsIn, answersIn}
 
 -- how many records are of the kinds 0 to 2
@@ -38,5 +39,7 @@ pub record Claims (tape : List ℕ) : Type 0 where
   -- the number of orders in the total is the sum of those in the lines, and by demand 3 at most the loads and three times the stores
   pub total : ordersGiven (answersIn tape) ≡ sum (map shown (answersIn tape))
   pub bill : ordersGiven (answersIn tape) ≤ loads (callsIn tape) + 3 * stores (callsIn tape)
+  -- a tape that gives a total reads as its records, and then "finished"
+  pub reads : readAll tape .ending ≡ finished → ReadsAs tape 0 (readAll tape .records)
   -- reading comes to its end: more steps read no more
   pub ends : (n : ℕ) → length tape < n → readFrom n tape 0 ≡ readAll tape

@@ -18,7 +18,7 @@ use Rattle.drill_text.specs.Line.{lines, totalLine, refusedLine}
 abbrev pub tapeMost : ℕ
 tapeMost = 65536
 
--- a space that is long enough for the text of any tape (`drill`'s contract): 11 bytes for each byte of the longest tape, and the last line
+-- a space that is long enough for the text of any tape (`drill`'s contract): 11 bytes for each byte of the longest tape, and 64 for the last line
 abbrev pub textMost : ℕ
 textMost = 720960
 
