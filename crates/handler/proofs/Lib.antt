@@ -1,0 +1,4 @@
+-- The laws of the handler.
+pub mod RoundRobin
+pub mod Allowed
+pub mod GrantCases
