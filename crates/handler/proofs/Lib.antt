@@ -2,3 +2,4 @@
 pub mod RoundRobin
 pub mod Allowed
 pub mod GrantCases
+pub mod HandlerLaws

@@ -42,16 +42,6 @@ pub passed-end : (set last k : ℕ) → 8 ≤ k → passed (8 - k) set last k �
 unfolding passed
 passed-end set last k h = let n : 8 - k ≡ 0 = omega arith in rw n
 
--- no more are passed than are looked at
-pub passed-bound : (n set last k : ℕ) → passed n set last k ≤ n + k
-unfolding passed
-passed-bound zero set last k = omega arith
-passed-bound (suc n) set last k = on (contains set (met last k)) (passed-bound n set last (k + 1))
-  where
-    on : (t : Bool) → passed n set last (k + 1) ≤ n + (k + 1) → cond t k (passed n set last (k + 1)) ≤ suc n + k
-    on true r = omega arith
-    on false r = omega arith
-
 -- where the search ends early, it ends at a member
 pub passed-member : (n set last k : ℕ) → passed n set last k < n + k → contains set (met last (passed n set last k)) ≡ true
 unfolding passed

@@ -3,7 +3,7 @@ use order::BAD_HANDLER_STATE;
 ghost use mathlib.Core.Path.{_≡_};
 ghost use mathlib.Core.Bool.{true};
 ghost use Prim.Native.Nat.{_≤_};
-ghost use Rattle.handler.specs.Handler.{contains, met, firstMet, lockNext, moved, granted, nobody, lowGrant, grantNext, stateAllowed, allowed, arbitration, initial};
+ghost use Rattle.handler.specs.Handler.{contains, met, firstMet, lockNext, moved, granted, nobody, lowGrant, grantNext, lockAllowed, stateAllowed, allowed, arbitration, initial};
 
 // How a unit asks for the bus: by RQH or by RQL.
 pub enum Class {
@@ -70,19 +70,15 @@ pub fn arbitrate(state: State, high: u16, low: u16, lck: bool) -> Arbitration
 fn is_allowed(state: State, high: u16, low: u16) -> bool
     ensures { λ r. ⌜ r ≡ allowed state high low ⌝ }
 {
-    if high > 255 {
-        return false;
-    }
-    if low > 255 {
-        return false;
-    }
-    if state.last_high > 7 {
-        return false;
-    }
-    if state.last_low > 7 {
-        return false;
-    }
     let lock = state.lock;
+    let sets = (high <= 255) & (low <= 255);
+    let lasts = (state.last_high <= 7) & (state.last_low <= 7);
+    sets & (lasts & is_lock_allowed(lock))
+}
+
+fn is_lock_allowed(lock: Lock) -> bool
+    ensures { λ r. ⌜ r ≡ lockAllowed lock ⌝ }
+{
     match lock {
         Lock::Free => true,
         Lock::Owner(unit) => unit <= 7,
