@@ -158,18 +158,16 @@ fn granted_to_nobody(state: State) -> Arbitration
 fn moved_to(class: Class, unit: u8, state: State) -> State
     ensures { λ r. ⌜ r ≡ moved class unit state ⌝ }
 {
-    let lock = state.lock;
+    let mut next = state;
     match class {
-        Class::High => State {
-            last_high: unit,
-            last_low: state.last_low,
-            lock: lock,
-        },
-        Class::Low => State {
-            last_high: state.last_high,
-            last_low: unit,
-            lock: lock,
-        },
+        Class::High => {
+            next.last_high = unit;
+            next
+        }
+        Class::Low => {
+            next.last_low = unit;
+            next
+        }
     }
 }
 
