@@ -84,3 +84,8 @@ module _ (s : State) (high low : ℕ) (ok : allowed s high low ≡ true) where
   pub call-state-allowed : stateAllowed s ≡ true
   unfolding allowed
   call-state-allowed = both (leb high 255 && leb low 255) (stateAllowed s) ok .1
+
+-- the request sets and the state make an accepted call
+pub call-allowed : (s : State) (high low : ℕ) → ((c : Class) → requests c high low ≤ 255) → stateAllowed s ≡ true → allowed s high low ≡ true
+unfolding allowed requests
+call-allowed s high low r ok = rw (le-leb high 255 (r High), le-leb low 255 (r Low)) ok

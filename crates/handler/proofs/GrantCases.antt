@@ -13,6 +13,7 @@ use Rattle.handler.specs.declared.State.{State}
 use Rattle.handler.specs.declared.Arbitration.{Arbitration}
 use Rattle.handler.specs.Handler.{lastUnit, requests, contains, locked, distance, firstMet, granted, nobody, byTurn, lowGrant, grantNext, lockAllowed, allowed, refused, arbitration}
 use Rattle.handler.proofs.RoundRobin.{first-met-member, first-met-nearest, first-met-unit}
+use Rattle.handler.proofs.StateParts.{last-locked}
 use Rattle.handler.proofs.Allowed.{last-allowed, lock-allowed, owner-allowed, locked-allowed, requests-allowed, call-state-allowed}
 
 -- the low grant
@@ -48,13 +49,8 @@ pub record Chosen (s : State) (high low : ℕ) (lck : Bool) (c : Class) (u : ℕ
 pub data Ruling (s : State) (high low : ℕ) (lck : Bool) : Arbitration → Type 0 where
   refusing : allowed s high low ≡ false → Ruling s high low lck (refused s)
   granting : (c : Class) (u : ℕ) → allowed s high low ≡ true → Chosen s high low lck c u → Ruling s high low lck (granted c u (locked lck s))
-  passing : allowed s high low ≡ true → high ≡ 0 → ((o : ℕ) → locked lck s .lock ≡ Owner o → contains low o ≡ false) →
+  nothing-to-grant : allowed s high low ≡ true → high ≡ 0 → ((o : ℕ) → locked lck s .lock ≡ Owner o → contains low o ≡ false) →
       (locked lck s .lock ≡ Free → low ≡ 0) → Ruling s high low lck (nobody (locked lck s))
-
-pub last-locked : (c : Class) (lck : Bool) (s : State) → lastUnit c (locked lck s) ≡ lastUnit c s
-unfolding lastUnit locked
-last-locked High lck s = refl
-last-locked Low lck s = refl
 
 module _ (s : State) (high low : ℕ) (lck : Bool) (ok : allowed s high low ≡ true) where
   -- a turn, in either class
@@ -89,13 +85,13 @@ module _ (s : State) (high low : ℕ) (lck : Bool) (ok : allowed s high low ≡ 
         nearest = λ f v hv k. let g : locked lck s .lock ≡ Free = f refl in let z : _≡_ {A = ℕ} 0 1 = cc in absurd (omega arith);
       }
   by-owner o hz l false e =
-      passing ok hz (λ v m. let q : v ≡ o = cc in rw q e) (λ m. let z : _≡_ {A = ℕ} 0 1 = cc in absurd (omega arith))
+      nothing-to-grant ok hz (λ v m. let q : v ≡ o = cc in rw q e) (λ m. let z : _≡_ {A = ℕ} 0 1 = cc in absurd (omega arith))
 
   -- with no lock
   by-free : high ≡ 0 → locked lck s .lock ≡ Free → (t : Bool) → eqb low 0 ≡ t →
       Ruling s high low lck (cond t (nobody (locked lck s)) (byTurn Low low (locked lck s)))
   unfolding requests
-  by-free hz l true e = passing ok hz (λ v m. let z : _≡_ {A = ℕ} 0 1 = cc in absurd (omega arith)) (λ m. eqb-true low 0 e)
+  by-free hz l true e = nothing-to-grant ok hz (λ v m. let z : _≡_ {A = ℕ} 0 1 = cc in absurd (omega arith)) (λ m. eqb-true low 0 e)
   by-free hz l false e = by-turn Low (eqb-false low 0 e) (λ m. (hz, l))
 
   by-lock : high ≡ 0 → (lock : Lock) → locked lck s .lock ≡ lock → Ruling s high low lck (lowGrant lock low (locked lck s))

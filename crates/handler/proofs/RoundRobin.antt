@@ -80,7 +80,7 @@ without-units set h none = down 8 (omega arith) (omega arith)
         down n (omega arith)
         (even (set / 2 ^ n) (eqb-false (set / 2 ^ n % 2) 1 (none n (omega arith))) (shr-shr set n 1 ∙ ap (λ (k : ℕ). set / 2 ^ k) (add-one n) ∙ e))
 
--- a member is no nearer than what was passed
+-- no member's distance is below the number of units passed
 pub passed-nearest : (set last v : ℕ) → last ≤ 7 → v ≤ 7 → contains set v ≡ true → passed 8 set last 0 ≤ distance last v
 passed-nearest set last v hl hv e = on (decLt (distance last v) (passed 8 set last 0))
   where

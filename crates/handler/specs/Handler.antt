@@ -20,6 +20,7 @@ unfoldable pub lastUnit : Class → State → ℕ
 lastUnit High s = s .«last_high»
 lastUnit Low s = s .«last_low»
 
+-- the lock's owner, if it has one
 unfoldable pub ownerOf : Lock → Option ℕ
 ownerOf Free = none
 ownerOf (Owner u) = some u
@@ -30,6 +31,7 @@ unfoldable pub requests : Class → ℕ → ℕ → ℕ
 requests High high low = high
 requests Low high low = low
 
+-- whether unit u is in the set
 unfoldable pub contains : ℕ → ℕ → Bool
 contains set u = eqb (set / 2 ^ u % 2) 1
 
@@ -57,16 +59,16 @@ locked lck s = record { «last_high» = s .«last_high»; «last_low» = s .«la
 unfoldable pub met : ℕ → ℕ → ℕ
 met last k = (last + 1 + k) % 8
 
--- how many others are met before unit u
+-- how many others are met before unit u; the laws of the grant speak of it
 unfoldable pub distance : ℕ → ℕ → ℕ
 distance last u = (u + 7 - last) % 8
 
--- how many units are passed before a member is met: k are passed, and n more are looked at
+-- how many units are passed before a member is met, where k are passed and at most n more are looked at
 unfoldable pub passed : ℕ → ℕ → ℕ → ℕ → ℕ
 passed zero set last k = k
 passed (suc n) set last k = cond (contains set (met last k)) k (passed n set last (k + 1))
 
--- of a set that isn't empty
+-- the first member met; asked only of a set that isn't empty
 unfoldable pub firstMet : ℕ → ℕ → ℕ
 firstMet set last = met last (passed 8 set last 0)
 
@@ -84,6 +86,7 @@ granted c u s = record { refusal = accepted; grant = To c u; state = moved c u s
 unfoldable pub nobody : State → Arbitration
 nobody s = record { refusal = accepted; grant = Nobody; state = s }
 
+-- the class's grant by its last unit, from a set that isn't empty
 unfoldable pub byTurn : Class → ℕ → State → Arbitration
 byTurn c set s = granted c (firstMet set (lastUnit c s)) s
 
