@@ -1,0 +1,6 @@
+pub mod GroupLaws
+pub mod NumberLaws
+pub mod SpellLaws
+pub mod FieldLaws
+pub mod ReadLaws
+pub mod WriteLaws

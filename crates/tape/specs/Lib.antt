@@ -1,0 +1,5 @@
+-- The tape: numbers and records as bytes.
+pub mod Number
+pub mod Field
+pub mod Record
+pub mod Write
