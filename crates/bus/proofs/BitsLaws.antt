@@ -6,7 +6,7 @@ use native.Mathlib.Nat.{pow-suc, zero-mul, div-one, mul-le-mul-right, div-mul-le
 use native.Mathlib.Numerals.{add-one, one-add}
 use native.Mathlib.Omega.{arith}
 use lib.Count.{ones, ones-step, ones-le}
-use lib.Pow.{shr-shr, pow-pos}
+use lib.Pow.{shr-shr}
 use borrow.Author.Tests.{eq-eqb, ne-eqb}
 use Rattle.bus.specs.Bits.{sumBelow, bitAt, onesBelow, fromBits, flipped}
 use Rattle.bus.proofs.Cases.{eq-or-ne}

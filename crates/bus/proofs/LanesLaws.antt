@@ -1,18 +1,18 @@
--- Laws of the byte lanes: the valid positions are BCT + 1 in a row from RA mod 8 on, and there are two words exactly where one of them lies past position 7.
+-- Laws of the byte lanes: the valid positions are BCT + 1 in a row from RA mod 8 on, and there are two words exactly where one of them
+-- lies past position 7.
 use Prim.Native.Nat.{ℕ, zero, suc, _+_, _-_, _*_, _/_, _%_, _^_, _≤_, _<_}
 use mathlib.Core.Bool.{Bool, true, false, cond}
 use mathlib.Core.Logic.{_↔_, ⊎-elim}
-use mathlib.Core.Path.{_≡_, refl, sym, ap, _∙_}
+use mathlib.Core.Path.{_≡_, ap, _∙_}
 use native.Mathlib.Nat.{add-suc, add-zero}
 use native.Mathlib.Numerals.{add-one}
 use native.Mathlib.Omega.{arith}
 use lib.Count.{ones, ones-cat, ones-le, ones-ones}
-use lib.Dec.{leb}
 use lib.Pow.{pow-pos, pow-add, pow-mono, shl-exact}
-use borrow.Author.Tests.{leb-true, leb-false, le-leb, lt-leb}
+use borrow.Author.Tests.{le-leb, lt-leb}
 use Rattle.bus.specs.Range.{within}
 use Rattle.bus.specs.Bits.{bitAt, onesBelow, fromBits}
-use Rattle.bus.specs.Lanes.{carriedAt, positionsOf, wordsOf, lanesOf}
+use Rattle.bus.specs.Lanes.{carriedAt, positionsOf, wordsOf}
 use Rattle.bus.proofs.Cases.{le-or-lt}
 use Rattle.bus.proofs.RangeLaws.{within-in, within-under, within-over}
 use Rattle.bus.proofs.BitsLaws.{from-step, from-none, from-lt, bit-from, ones-count}
@@ -118,10 +118,11 @@ position-in ra bct p l = (there, back)
 
     there : bitAt p (positionsOf ra bct) ≡ 1 → (ra % 8 ≤ p) × (p < ra % 8 + (bct + 1))
     there e =
-        ⊎-elim
-        (λ (h : ra % 8 ≤ p). ⊎-elim (λ (g : p ≤ ra % 8 + bct). omega arith) (λ (g : ra % 8 + bct < p). absurd (omega (arith, same, carried-over ra bct p g))) (le-or-lt p (ra % 8 + bct)))
-        (λ (h : p < ra % 8). absurd (omega (arith, same, carried-under ra bct p h)))
-        (le-or-lt (ra % 8) p)
+        let from : ra % 8 ≤ p =
+        ⊎-elim (λ (h : ra % 8 ≤ p). h) (λ (h : p < ra % 8). omega (arith, same, carried-under ra bct p h)) (le-or-lt (ra % 8) p) in
+        let to : p ≤ ra % 8 + bct =
+        ⊎-elim (λ (h : p ≤ ra % 8 + bct). h) (λ (h : ra % 8 + bct < p). omega (arith, same, carried-over ra bct p h)) (le-or-lt p (ra % 8 + bct)) in
+        omega arith
 
     back : (ra % 8 ≤ p) × (p < ra % 8 + (bct + 1)) → bitAt p (positionsOf ra bct) ≡ 1
     back h = same ∙ carried-in ra bct p (h .0) (omega arith)

@@ -1,15 +1,14 @@
 -- Laws of parity: a word beside its own parity bits has no wrong byte, and one bit the other way, in the word or in the set,
 -- changes the answer in that byte's bit alone.
 use Prim.Native.Nat.{ℕ, zero, suc, _+_, _-_, _*_, _/_, _%_, _^_, _≤_, _<_}
-use mathlib.Core.Logic.{⊎-elim}
-use mathlib.Core.Path.{_≡_, refl, sym, ap, _∙_}
+use mathlib.Core.Path.{_≡_, refl, sym, ap, ap₂, _∙_}
 use native.Mathlib.Nat.{pow-suc, lt-of-lt-of-le}
 use native.Mathlib.Omega.{arith}
 use lib.Pow.{pow-add, pow-mono, shl-exact, shr-shr, field, mod-mod-pow}
 use lib.Count.{ones, ones-step}
 use Rattle.bus.specs.Bits.{sumBelow, bitAt, onesBelow, fromBits, flipped}
 use Rattle.bus.specs.Parity.{byteAt, parityBit, parityOf, wrongBit, wrongAt, wrongOf, checkOf}
-use Rattle.bus.proofs.BitsLaws.{ones-count, from-step, from-none, from-lt, sum-same, sum-zero, sum-but, bit-lt, bit-of-zero, bit-from, ones-from, bit-flip, bit-other, from-flip}
+use Rattle.bus.proofs.BitsLaws.{ones-count, from-step, from-none, from-lt, sum-same, sum-zero, sum-but, bit-of-zero, bit-from, ones-from, bit-flip, bit-other, from-flip}
 
 -- a byte and its parity bit together have an odd count of ones
 pub parity-odd : (byte : ℕ) → (onesBelow 8 byte + parityBit byte) % 2 ≡ 1
@@ -62,16 +61,24 @@ byte-of-shift word k =
     let e : 56 - 8 * k ≡ 8 * (7 - k) = omega arith in
     ap (λ (y : ℕ). word / 2 ^ y % 256) e ∙ ap (λ (y : ℕ). word / y % 256) (sym (pow-bytes (7 - k)))
 
--- the wrong bytes among the first k: one byte more, and a bound
-pub wrong-step : (word set k bit : ℕ) → k < 8 → bit ≡ wrongAt word set k
-    → fromBits k (wrongAt word set) + bit * 2 ^ k % 2 ^ 32 ≡ fromBits (k + 1) (wrongAt word set)
-wrong-step word set k bit l e =
-    rw e
-    (ap (λ (y : ℕ). fromBits k (wrongAt word set) + y) (shl-exact 1 k 32 (wrong-at-lt word set k) (omega arith))
-    ∙ sym (from-step k (wrongAt word set)))
-
 pub wrong-fits : (word set k : ℕ) → k ≤ 8 → fromBits k (wrongAt word set) < 256
 wrong-fits word set k l = lt-of-lt-of-le (from-lt k (wrongAt word set) (wrong-at-lt word set)) (pow-mono l)
+
+-- the set of the wrong bytes before k, with what is found of byte k
+module _ (word set k : ℕ) {wrong byte bit found : ℕ} (l : k < 8) (before : wrong ≡ fromBits k (wrongAt word set)) (at-byte : byte ≡ byteAt k word)
+    (at-bit : bit ≡ bitAt k set) (judged : found ≡ wrongBit byte bit) where
+  found-is : found ≡ wrongAt word set k
+  unfolding wrongAt
+  found-is = judged ∙ ap₂ wrongBit at-byte at-bit
+
+  pub wrong-step : wrong + found * 2 ^ k % 2 ^ 32 ≡ fromBits (k + 1) (wrongAt word set)
+  wrong-step =
+      rw (before, found-is)
+      (ap (λ (y : ℕ). fromBits k (wrongAt word set) + y) (shl-exact 1 k 32 (wrong-at-lt word set k) (omega arith))
+      ∙ sym (from-step k (wrongAt word set)))
+
+  pub wrong-step-fits : wrong + found * 2 ^ k % 2 ^ 32 < 256
+  wrong-step-fits = rw wrong-step (wrong-fits word set (k + 1) (omega arith))
 
 pub check-of-ones : (word set wrong : ℕ) → wrong ≡ wrongOf word set → record { wrong = wrong; count = ones wrong } ≡ checkOf word set
 unfolding wrongOf checkOf
@@ -96,7 +103,7 @@ unfolding checkOf wrongOf
 check-own word =
     rw (from-none 8 (wrongAt word (parityOf word)) (own-right word), sum-zero 8 (wrongAt word (parityOf word)) (own-right word))
 
--- ---- one bit the other way
+-- ---- one bit the other way: in the answer exactly the bit of its byte changes
 
 -- a bit more or less in a byte's ones, or in its parity bit, turns right into wrong and wrong into right
 wrong-turns : (word set word′ set′ k : ℕ)
@@ -115,7 +122,7 @@ flip-set word set i l =
     stays : (k : ℕ) → k < 8 → (k ≡ i → ⊥) → wrongAt word (flipped i set) k ≡ wrongAt word set k
     stays k m d = ap (wrongBit (byteAt k word)) (bit-other i k set d)
 
--- bit i of the word, which is in byte 7 - i / 8
+-- the bits of a byte are the word's
 bit-low : (x j : ℕ) → j < 8 → bitAt j (x % 256) ≡ bitAt j x
 unfolding bitAt
 bit-low x j l =
@@ -155,6 +162,7 @@ ones-own word i k e =
     sum-but 8 (i % 8) _ _ (omega arith) (λ j l d. bit-of-byte-other word i k j l (λ (q : 8 * (7 - k) + j ≡ i). d (omega arith))) in
     omega (arith, at (flipped i word), at word, bit-flip i word)
 
+-- bit i of the word, which is in byte 7 - i / 8
 pub flip-word : (word set i : ℕ) → i < 64 → wrongOf (flipped i word) set ≡ flipped (7 - i / 8) (wrongOf word set)
 unfolding wrongOf wrongAt wrongBit
 flip-word word set i l =

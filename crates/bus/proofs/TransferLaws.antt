@@ -10,7 +10,7 @@ use Rattle.order.specs.Refusal.{accepted}
 use Rattle.bus.specs.Range.{within}
 use Rattle.bus.specs.Transfer.{etAtRequest, planOf, refusedPlan}
 use Rattle.bus.proofs.Cases.{le-or-lt}
-use Rattle.bus.proofs.RangeLaws.{within-in, within-under, within-over}
+use Rattle.bus.proofs.RangeLaws.{within-in, within-over}
 
 -- a cycle is one of 1 to n - k exactly where k more come after it
 all-but : (n k cycle : ℕ) → 1 ≤ cycle → within 1 (n - k) cycle ≡ leb (cycle + k) n

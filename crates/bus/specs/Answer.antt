@@ -1,4 +1,4 @@
--- Answer codes and their classes (document 01, "Answer codes", from the standard's Table 7).
+-- Answer codes and their classes (document 01, "Answer codes", from the standard's Table 7; bit 0 read as most significant is a house rule).
 use Prim.Native.Nat.{ℕ, _+_, _-_}
 use mathlib.Core.Bool.{Bool, true, false, cond}
 use lib.Dec.{leb, eqb}
@@ -46,6 +46,7 @@ inRow BusSequenceError = true
 inRow (ReservedError n) = within 131 191 n
 inRow (UserError n) = within 192 255 (n + 192)
 
+-- a class gives its code back; refused where its carried number is not one of its row
 unfoldable pub codeOf : Class → CodeFound
 codeOf k = cond (inRow k) (Code (codeNumber k)) (Refused fieldRange)
 

@@ -19,6 +19,7 @@ positionsOf ra bct = fromBits 16 (carriedAt ra bct)
 unfoldable pub wordsOf : ℕ → ℕ → ℕ
 wordsOf ra bct = cond (leb (ra % 8 + bct) 7) 1 2
 
+-- BCT above 7 is refused, with no words and no positions
 unfoldable pub lanesOf : ℕ → ℕ → ByteLanes
 lanesOf ra bct =
     cond (within 0 7 bct)

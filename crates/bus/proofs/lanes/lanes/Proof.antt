@@ -39,8 +39,7 @@ cast-positions c =
 returns-2 : tie.Need-returns-2
 unfolding lanesOf
 returns-2 c =
-    rw
-    (words-of-sum (c .before .args .ra) (c .before .args .bct) (c .if1 .left), positions-of-shift (c .before .args .ra) (c .before .args .bct) (c .if1 .left), within-in 0 7 (c .before .args .bct) (omega arith) (c .if1 .left))
+    rw (words-of-sum _ _ (c .if1 .left), positions-of-shift _ _ (c .if1 .left), within-in 0 7 _ (omega arith) (c .if1 .left))
 
 pub lanes-spec : {M : Type 1} → statement M
 lanes-spec =

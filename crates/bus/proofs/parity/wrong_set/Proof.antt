@@ -1,11 +1,11 @@
 -- `bus::parity::wrong_set` meets its contract. The loop's invariant: the bytes before k are judged.
 use borrow.Author.Needs.{needs}
-use Prim.Native.Nat.{ℕ, _+_, _-_, _*_, _%_, _^_, _≤_, _<_}
-use mathlib.Core.Path.{_≡_, refl, ap, ap₂, _∙_}
+use Prim.Native.Nat.{ℕ, _-_, _≤_}
+use mathlib.Core.Path.{_≡_, refl, ap, _∙_}
 use native.Mathlib.Omega.{arith}
 use Rattle.bus.specs.Bits.{sumBelow, fromBits}
-use Rattle.bus.specs.Parity.{wrongBit, wrongAt, wrongOf}
-use Rattle.bus.proofs.ParityLaws.{wrong-step, wrong-fits}
+use Rattle.bus.specs.Parity.{wrongAt, wrongOf}
+use Rattle.bus.proofs.ParityLaws.{wrong-fits, wrong-step, wrong-step-fits}
 use Rattle.bus.proofs.parity.wrong_set.Statement.{statement}
 use Rattle.bus.proofs.parity.wrong_set.Tie as tie
 
@@ -14,29 +14,6 @@ Inv-loop word set wrong₀ k₀ wrong k = (k ≤ 8) × (wrong ≡ fromBits k (wr
 
 abbrev μ-loop : tie.MeasureT-loop
 μ-loop word set wrong₀ k₀ wrong k = 8 - k
-
--- what was found of byte k
-found : (c : tie.After-wrong-bit Inv-loop μ-loop)
-    → c .wrong-bit .result
-    ≡ wrongAt
-    (c .before .before .before .before .before .args .word)
-    (c .before .before .before .before .before .args .set)
-    (c .before .before .before .before .loop .k)
-unfolding wrongAt
-found c = c .wrong-bit .ensures .0 ∙ ap₂ wrongBit (c .before .before .byte-at .ensures .0) (c .before .bit-at .ensures .0)
-
-step : (c : tie.After-wrong-bit Inv-loop μ-loop)
-    → c .before .before .before .before .loop .wrong + c .wrong-bit .result * 2 ^ c .before .before .before .before .loop .k % 2 ^ 32
-    ≡ fromBits
-    (c .before .before .before .before .loop .k + 1)
-    (wrongAt
-    (c .before .before .before .before .before .args .word)
-    (c .before .before .before .before .before .args .set))
-step c =
-    ap
-    (λ (y : ℕ). y + c .wrong-bit .result * 2 ^ c .before .before .before .before .loop .k % 2 ^ 32)
-    (c .before .before .before .before .loop .inv .1)
-    ∙ wrong-step _ _ _ _ (omega arith) (found c)
 
 loop-holds : tie.Need-loop-holds Inv-loop μ-loop
 unfolding fromBits sumBelow
@@ -55,7 +32,11 @@ shl-wrong : tie.Need-shl-wrong Inv-loop μ-loop
 shl-wrong c = search needs
 
 add-wrong : tie.Need-add-wrong Inv-loop μ-loop
-add-wrong c = omega (arith, step c, wrong-fits (c .before .before .before .before .before .args .word) (c .before .before .before .before .before .args .set) (c .before .before .before .before .loop .k + 1) (omega arith))
+add-wrong c =
+    let before = c .before .before .before .before .loop .inv .1 in
+    let byte = c .before .before .byte-at .ensures .0 in
+    let bit = c .before .bit-at .ensures .0 in
+    omega (arith, wrong-step-fits _ _ _ (omega arith) before byte bit (c .wrong-bit .ensures .0))
 
 add-k : tie.Need-add-k Inv-loop μ-loop
 add-k c = search needs
@@ -64,7 +45,11 @@ loop-less : tie.Need-loop-less Inv-loop μ-loop
 loop-less c = search needs
 
 loop-again : tie.Need-loop-again Inv-loop μ-loop
-loop-again c = (omega arith, step c)
+loop-again c =
+    let before = c .before .before .before .before .loop .inv .1 in
+    let byte = c .before .before .byte-at .ensures .0 in
+    let bit = c .before .bit-at .ensures .0 in
+    (omega arith, wrong-step _ _ _ (omega arith) before byte bit (c .wrong-bit .ensures .0))
 
 cast-result : tie.Need-cast-result Inv-loop μ-loop
 cast-result c = omega (arith, wrong-fits (c .before .before .args .word) (c .before .before .args .set) (c .before .loop .k) (omega arith))
