@@ -45,7 +45,7 @@ pub fn fresh() -> State
     }
 }
 
-// Sets of units hold unit u with weight 2 to the power u.
+// One call: RQH and RQL as sets in which unit u has weight 2 to the power u, and whether LCK is asserted.
 pub fn arbitrate(state: State, high: u16, low: u16, lck: bool) -> Arbitration
     ensures { λ r. ⌜ r ≡ arbitration state high low lck ⌝ }
 {
