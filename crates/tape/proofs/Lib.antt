@@ -4,3 +4,5 @@ pub mod SpellLaws
 pub mod FieldLaws
 pub mod ReadLaws
 pub mod WriteLaws
+pub mod LayoutLaws
+pub mod RoundTrip

@@ -3,3 +3,5 @@ pub mod Number
 pub mod Field
 pub mod Record
 pub mod Write
+pub mod Reader
+pub mod RoundTrip
