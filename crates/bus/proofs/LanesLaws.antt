@@ -10,9 +10,10 @@ use native.Mathlib.Omega.{arith}
 use lib.Count.{ones, ones-cat, ones-le, ones-ones}
 use lib.Pow.{pow-pos, pow-add, pow-mono, shl-exact}
 use borrow.Author.Tests.{le-leb, lt-leb}
+use Rattle.order.specs.Refusal.{accepted, fieldRange}
 use Rattle.bus.specs.Range.{within}
 use Rattle.bus.specs.Bits.{bitAt, onesBelow, fromBits}
-use Rattle.bus.specs.Lanes.{carriedAt, positionsOf, wordsOf}
+use Rattle.bus.specs.Lanes.{carriedAt, positionsOf, wordsOf, lanesOf}
 use Rattle.bus.proofs.Cases.{le-or-lt}
 use Rattle.bus.proofs.RangeLaws.{within-in, within-under, within-over}
 use Rattle.bus.proofs.BitsLaws.{from-step, from-none, from-lt, bit-from, ones-count}
@@ -98,13 +99,27 @@ pub positions-lt : (ra bct : ℕ) → positionsOf ra bct < 2 ^ 16
 unfolding positionsOf
 positions-lt ra bct = from-lt 16 (carriedAt ra bct) (carried-lt ra bct)
 
-pub words-of-sum : (ra bct : ℕ) → bct ≤ 7 → 1 + (ra % 8 + bct) / 8 ≡ wordsOf ra bct
+words-of-sum : (ra bct : ℕ) → bct ≤ 7 → 1 + (ra % 8 + bct) / 8 ≡ wordsOf ra bct
 unfolding wordsOf
 words-of-sum ra bct l =
     ⊎-elim
     (λ (h : ra % 8 + bct ≤ 7). rw (le-leb (ra % 8 + bct) 7 h) (omega arith))
     (λ (h : 7 < ra % 8 + bct). rw (lt-leb (ra % 8 + bct) 7 h) (omega arith))
     (le-or-lt (ra % 8 + bct) 7)
+
+pub lanes-accepted : (ra bct : ℕ) → bct ≤ 7
+    → lanesOf ra bct
+    ≡ record {
+      refusal = accepted;
+      words = 1 + (ra % 8 + bct) / 8;
+      positions = (2 * 2 ^ bct % 2 ^ 32 - 1) * 2 ^ (ra % 8) % 2 ^ 32;
+    }
+unfolding lanesOf
+lanes-accepted ra bct l = rw (within-in 0 7 bct (omega arith) l, words-of-sum ra bct l, positions-of-shift ra bct l)
+
+pub lanes-refused : (ra bct : ℕ) → 7 < bct → lanesOf ra bct ≡ record { refusal = fieldRange; words = 0; positions = 0 }
+unfolding lanesOf
+lanes-refused ra bct l = rw (within-over 0 7 bct l)
 
 -- ---- the laws
 

@@ -1,17 +1,15 @@
 -- `bus::lanes::lanes` meets its contract.
 use borrow.Author.Needs.{needs}
 use Prim.Native.Nat.{_+_}
+use mathlib.Core.Path.{sym}
 use native.Mathlib.Omega.{arith}
 use lib.Pow.{pow-pos}
-use Rattle.bus.specs.Lanes.{lanesOf}
-use Rattle.bus.proofs.RangeLaws.{within-in, within-over}
-use Rattle.bus.proofs.LanesLaws.{run-of-shift, positions-of-shift, positions-lt, words-of-sum}
+use Rattle.bus.proofs.LanesLaws.{run-of-shift, positions-of-shift, positions-lt, lanes-accepted, lanes-refused}
 use Rattle.bus.proofs.lanes.lanes.Statement.{statement}
 use Rattle.bus.proofs.lanes.lanes.Tie as tie
 
 returns : tie.Need-returns
-unfolding lanesOf
-returns c = rw (within-over 0 7 _ (c .if1 .taken))
+returns c = sym (lanes-refused _ _ (c .if1 .taken))
 
 shl-carried : tie.Need-shl-carried
 shl-carried c = search needs
@@ -37,9 +35,7 @@ cast-positions c =
     (arith, positions-of-shift (c .before .args .ra) (c .before .args .bct) (omega arith), positions-lt (c .before .args .ra) (c .before .args .bct))
 
 returns-2 : tie.Need-returns-2
-unfolding lanesOf
-returns-2 c =
-    rw (words-of-sum _ _ (c .if1 .left), positions-of-shift _ _ (c .if1 .left), within-in 0 7 _ (omega arith) (c .if1 .left))
+returns-2 c = sym (lanes-accepted _ _ (c .if1 .left))
 
 pub lanes-spec : {M : Type 1} → statement M
 lanes-spec =
