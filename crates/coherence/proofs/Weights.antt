@@ -1,0 +1,48 @@
+-- What the EM slots of a directory may still cost: e orders each. The weight e is a parameter of every law of cost; the bill takes it to be 2.
+use mathlib.Core.Path.{_≡_, refl}
+use mathlib.Core.List.{List, [], _∷_}
+use Prim.Native.Nat.{ℕ, zero, suc, _+_, _<_}
+use native.Mathlib.Omega.{arith}
+use lib.ListN.{length, getD, set, replicate}
+use Rattle.coherence.specs.declared.Slot.{Slot}
+use Rattle.coherence.specs.declared.Slot.the-variants.{Invalid, Shared, Modified}
+use Rattle.coherence.specs.declared.Entry.{Entry}
+use Rattle.coherence.specs.declared.Directory.{Directory}
+use Rattle.coherence.specs.Slots.{emptyEntry, slotAt, setSlot, coldDirectory}
+use Rattle.coherence.proofs.SlotLaws.{size}
+
+abbrev pub weight : ℕ → Slot → ℕ
+weight e Invalid = 0
+weight e (Shared b) = 0
+weight e (Modified b) = e
+
+weights : ℕ → List Entry → ℕ
+weights e [] = 0
+weights e (x ∷ xs) = weight e (x .slot) + weights e xs
+
+weights-set : (e : ℕ) (l : List Entry) (n : ℕ) (y : Entry) → n < length l
+    → weights e (set l n y) + weight e ((getD l n emptyEntry) .slot) ≡ weights e l + weight e (y .slot)
+unfolding weights
+weights-set e [] n y h = omega arith
+weights-set e (x ∷ xs) zero y h = omega arith
+weights-set e (x ∷ xs) (suc n) y h =
+    let g : n < length xs = omega arith in
+    let r : weights e (set xs n y) + weight e ((getD xs n emptyEntry) .slot) ≡ weights e xs + weight e (y .slot) = weights-set e xs n y g in
+    omega arith
+
+pub debt : ℕ → Directory → ℕ
+debt e d = weights e (d .slots)
+
+pub debt-set : (e : ℕ) (d : Directory) (n : ℕ) (x : Slot) → n < size d
+    → debt e (setSlot d n x) + weight e (slotAt d n) ≡ debt e d + weight e x
+unfolding debt setSlot slotAt size
+debt-set e d n x h = weights-set e (d .slots) n (record { slot = x }) h
+
+weights-empty : (e n : ℕ) → weights e (replicate n emptyEntry) ≡ 0
+unfolding weights
+weights-empty e zero = refl
+weights-empty e (suc n) = let r : weights e (replicate n emptyEntry) ≡ 0 = weights-empty e n in omega arith
+
+pub debt-cold : (e : ℕ) → debt e coldDirectory ≡ 0
+unfolding debt coldDirectory
+debt-cold e = weights-empty e 64

@@ -1,0 +1,109 @@
+-- Document 01, "The directory": what a slot has, the rules, and the directory of a cold start. A slot has a number: slot s of unit u is
+-- number 16 u + s in the directory, and the part of the cache store at 512 u + 32 s is its block 16 u + s.
+use Prim.Native.Nat.{ℕ, zero, suc, _+_, _*_, _/_, _%_, _≤_, _<_}
+use mathlib.Core.Path.{_≡_}
+use mathlib.Core.Bool.{Bool, true, false, cond, not, _&&_, _||_}
+use lib.ListN.{getD, set, replicate}
+use lib.Dec.{leb, eqb}
+use Rattle.coherence.specs.declared.Slot.{Slot}
+use Rattle.coherence.specs.declared.Slot.the-variants.{Invalid, Shared, Modified}
+use Rattle.coherence.specs.declared.Entry.{Entry}
+use Rattle.coherence.specs.declared.Directory.{Directory}
+
+-- "Four processors": the last has number 3
+abbrev pub lastUnit : ℕ
+lastUnit = 3
+
+-- "a block of at most 63"
+abbrev pub lastBlock : ℕ
+lastBlock = 63
+
+abbrev pub emptyEntry : Entry
+emptyEntry = record { slot = Invalid }
+
+-- the number of the slot of unit u in which block b has its place
+unfoldable pub place : ℕ → ℕ → ℕ
+place u b = 16 * u + b % 16
+
+unfoldable pub slotAt : Directory → ℕ → Slot
+slotAt d n = (getD (d .slots) n emptyEntry) .slot
+
+-- slot n becomes x
+unfoldable pub setSlot : Directory → ℕ → Slot → Directory
+setSlot d n x = record { slots = set (d .slots) n (record { slot = x }) }
+
+-- the block number of a slot; "An invalid slot has block 0"
+unfoldable pub blockOf : Slot → ℕ
+blockOf Invalid = 0
+blockOf (Shared b) = b
+blockOf (Modified b) = b
+
+-- x is valid and has block b
+unfoldable pub holds : Slot → ℕ → Bool
+holds Invalid b = false
+holds (Shared c) b = eqb c b
+holds (Modified c) b = eqb c b
+
+-- x is EM with block b
+unfoldable pub modified : Slot → ℕ → Bool
+modified Invalid b = false
+modified (Shared c) b = false
+modified (Modified c) b = eqb c b
+
+-- the first unit that has block b EM, or 4 if none has
+unfoldable pub ownerOf : Directory → ℕ → ℕ
+ownerOf d b =
+    cond (modified (slotAt d (place 0 b)) b) 0
+    (cond (modified (slotAt d (place 1 b)) b) 1
+    (cond (modified (slotAt d (place 2 b)) b) 2
+    (cond (modified (slotAt d (place 3 b)) b) 3 4)))
+
+-- f holds of each number below n
+unfoldable pub allBelow : ℕ → (ℕ → Bool) → Bool
+allBelow zero f = true
+allBelow (suc n) f = allBelow n f && f n
+
+-- "A valid slot s has a block of at most 63 with block mod 16 = s": block b may stand in slot n
+unfoldable pub fits : ℕ → ℕ → Bool
+fits n b = leb b lastBlock && eqb (b % 16) (n % 16)
+
+-- "A block that is EM in one unit is valid in no other": no unit but that of slot n holds block b
+unfoldable pub alone : Directory → ℕ → ℕ → Bool
+alone d n b = allBelow 4 (λ v. eqb v (n / 16) || not (holds (slotAt d (place v b)) b))
+
+-- the rules of slot n, as it is x
+unfoldable pub slotRule : Directory → ℕ → Slot → Bool
+slotRule d n Invalid = true
+slotRule d n (Shared b) = fits n b
+slotRule d n (Modified b) = fits n b && alone d n b
+
+-- the test for refusal 2: no rule is violated
+unfoldable pub sound : Directory → Bool
+sound d = allBelow 64 (λ n. slotRule d n (slotAt d n))
+
+-- "Cold start: all slots invalid"
+unfoldable pub coldDirectory : Directory
+coldDirectory = record { slots = replicate 64 emptyEntry }
+
+-- ---- the same rules in document 01's words
+
+-- slot s of unit u
+unfoldable pub slotOf : Directory → ℕ → ℕ → Slot
+slotOf d u s = slotAt d (16 * u + s)
+
+-- "A block that is EM in one unit is valid in no other."
+unfoldable pub Exclusive : Directory → Type 0
+Exclusive d =
+    (u v s t b : ℕ) → u < 4 → v < 4 → s < 16 → t < 16 → slotOf d u s ≡ Modified b → holds (slotOf d v t) b ≡ true → u ≡ v
+
+pub record Rules (d : Directory) : Type 0 where
+  -- "An invalid slot has block 0."
+  pub empty : (u s : ℕ) → u < 4 → s < 16 → slotOf d u s ≡ Invalid → blockOf (slotOf d u s) ≡ 0
+  -- "A valid slot s has a block of at most 63 with block mod 16 = s."
+  pub placed : (u s b : ℕ) → u < 4 → s < 16 → holds (slotOf d u s) b ≡ true → (b ≤ 63) × (b % 16 ≡ s)
+  pub exclusive : Exclusive d
+
+-- the test passes if and only if the rules hold
+pub record TestsRules (d : Directory) : Type 0 where
+  pub enough : sound d ≡ true → Rules d
+  pub needed : Rules d → sound d ≡ true

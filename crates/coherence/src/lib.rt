@@ -1,0 +1,47 @@
+// What the cache machine's calls take and answer. Its rules and demand 3 are in specs/, the theorems in proofs/.
+use order::Order;
+
+// One slot of a unit's cache, after document 01, "The directory": invalid (I), shared and unmodified (SU), or exclusive and
+// modified (EM). The valid cases carry the block number; an invalid slot has none to carry, and its block counts as 0.
+pub enum Slot {
+    Invalid,
+    Shared(u8),
+    Modified(u8),
+}
+
+// A slot as an array of slots holds it.
+pub struct Entry {
+    pub slot: Slot,
+}
+
+// The slots of all four units: slot s of unit u is number 16 u + s.
+pub struct Directory {
+    pub slots: [Entry; 64],
+}
+
+// One call of the machine.
+pub enum Call {
+    Load { unit: u8, address: u32 },
+    Store { unit: u8, address: u32, value: u32 },
+    Flush { unit: u8, block: u8 },
+}
+
+// A call's orders in sequence: the first `count` places of the list.
+pub struct Orders {
+    pub count: usize,
+    pub list: [Order; 4],
+}
+
+// What a call answers. `refusal` is 0 if it was accepted; `directory` is the one that it leaves.
+pub struct Answer {
+    pub refusal: u8,
+    pub value: u32,
+    pub orders: Orders,
+    pub directory: Directory,
+}
+
+// What a cold start answers.
+pub struct Start {
+    pub refusal: u8,
+    pub directory: Directory,
+}

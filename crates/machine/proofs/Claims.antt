@@ -1,0 +1,118 @@
+-- A claim of a block, with the four slots of its number read first and written together.
+use mathlib.Core.Path.{_≡_, refl, sym, ap, _∙_}
+use mathlib.Core.Bool.{Bool, true, false, cond, not, _&&_}
+use Prim.Native.Nat.{ℕ, _+_, _*_, _%_}
+use native.Mathlib.Omega.{arith}
+use lib.Dec.{eqb}
+use lib.ListN.{getD, set}
+use lib.Seq.{set-getD}
+use Rattle.coherence.specs.declared.Slot.{Slot}
+use Rattle.coherence.specs.declared.Slot.the-variants.{Invalid, Modified}
+use Rattle.coherence.specs.declared.Directory.{Directory}
+use Rattle.machine.specs.declared.access.State.{State}
+use Rattle.coherence.specs.declared.Entry.{Entry}
+use mathlib.Core.List.{List}
+use Rattle.coherence.specs.Slots.{emptyEntry, place, slotAt, setSlot, holds, ownerOf}
+use Rattle.coherence.specs.Access.{Run, mark, expel, eachUnit, claim}
+use Rattle.machine.specs.Directory.{firstModified, released, releaseInto, claimedAtOnce}
+use Rattle.machine.specs.Access.{stateOf, Marks, Does}
+use Rattle.coherence.proofs.SlotLaws.{slot-other}
+
+set-own : (d : Directory) (n : ℕ) → setSlot d n (slotAt d n) ≡ d
+unfolding setSlot slotAt
+set-own d n = ap (λ (l : List Entry). record { slots = l }) (set-getD (d .slots) n emptyEntry)
+
+-- an action on the directory alone
+unfoldable withDir : (Directory → Directory) → Run → Run
+withDir f w = record { directory = f (w .directory); memory = w .memory; cache = w .cache; orders = w .orders }
+
+expel-is : (u b v : ℕ) (w : Run) → expel u b v w ≡ withDir (λ d. releaseInto u b d v d) w
+unfolding expel mark withDir releaseInto released
+expel-is u b v w = go (not (eqb v u) && holds (slotAt (w .directory) (place v b)) b)
+  where
+    x : Slot
+    x = slotAt (w .directory) (place v b)
+
+    go : (t : Bool) → cond t (mark (place v b) Invalid w) w ≡ withDir (λ d. setSlot d (place v b) (cond t Invalid (slotAt d (place v b)))) w
+    go true = refl
+    go false = sym (ap (λ (d : Directory). withDir (λ _. d) w) (set-own (w .directory) (place v b)))
+
+-- a slot of another unit is not touched
+cast-other : (u b v : ℕ) (d e : Directory) (k : ℕ) → (k ≡ v → ⊥) → slotAt (releaseInto u b d v e) (place k b) ≡ slotAt e (place k b)
+unfolding releaseInto place
+cast-other u b v d e k h = slot-other e (16 * v + b % 16) (16 * k + b % 16) _ (λ q. h (omega arith))
+
+-- so it does not matter when it is read
+cast-late : (u b v : ℕ) (d e : Directory) → slotAt e (place v b) ≡ slotAt d (place v b) → releaseInto u b e v e ≡ releaseInto u b d v e
+unfolding releaseInto
+cast-late u b v d e h = rw h refl
+
+abbrev each : ℕ → ℕ → ℕ → Directory → Directory
+each u b v d = releaseInto u b d v d
+
+claim-dir : (u b : ℕ) (d : Directory)
+    → setSlot (each u b 3 (each u b 2 (each u b 1 (each u b 0 d)))) (place u b) (Modified b) ≡ claimedAtOnce u b d
+unfolding claimedAtOnce
+claim-dir u b d =
+    let d₁ : Directory = releaseInto u b d 0 d in
+    let d₂ : Directory = releaseInto u b d 1 d₁ in
+    let d₃ : Directory = releaseInto u b d 2 d₂ in
+    let e₁ : releaseInto u b d₁ 1 d₁ ≡ d₂ = cast-late u b 1 d d₁ (cast-other u b 0 d d 1 (omega arith)) in
+    let e₂ : releaseInto u b d₂ 2 d₂ ≡ d₃ =
+    cast-late u b 2 d d₂ (cast-other u b 1 d d₁ 2 (omega arith) ∙ cast-other u b 0 d d 2 (omega arith)) in
+    let e₃ : releaseInto u b d₃ 3 d₃ ≡ releaseInto u b d 3 d₃ =
+    cast-late u b 3 d d₃ (cast-other u b 2 d d₂ 3 (omega arith) ∙ cast-other u b 1 d d₁ 3 (omega arith) ∙ cast-other u b 0 d d 3 (omega arith)) in
+    ap (λ (x : Directory). setSlot x (place u b) (Modified b))
+    (ap (λ (x : Directory). releaseInto u b (releaseInto u b x 2 x) 3 (releaseInto u b x 2 x)) e₁
+    ∙ ap (λ (x : Directory). releaseInto u b x 3 x) e₂
+    ∙ e₃)
+
+claim-is : (u b : ℕ) (w : Run) → claim u b w ≡ withDir (claimedAtOnce u b) w
+unfolding claim eachUnit mark withDir
+claim-is u b w =
+    rw (expel-is u b 0 w, expel-is u b 1, expel-is u b 2, expel-is u b 3)
+    (ap (λ (d : Directory). withDir (λ _. d) w) (claim-dir u b (w .directory)))
+
+pub claims-at : (u b : ℕ) (s : State) (d : Directory) → d ≡ claimedAtOnce u b (s .directory)
+    → Marks (claim u b) s (record { directory = d; orders = s .orders })
+unfolding stateOf withDir
+claims-at u b s d h = record {
+  on = λ m k. record {
+    at = λ w e a z.
+        let p : d ≡ claimedAtOnce u b (w .directory) = h ∙ ap (λ (t : State). claimedAtOnce u b (t .directory)) e in
+        rw (claim-is u b w) ((λ i. record { directory = p i; orders = e i .orders }), a, z);
+  };
+}
+
+place-at : (v b s : ℕ) → s ≡ b % 16 → place v b ≡ 16 * v + s
+unfolding place
+place-at v b s h = omega arith
+
+pub claimed-list : (d : Directory) (u b s n : ℕ) (w x y z : Slot) → s ≡ b % 16 → n ≡ place u b
+    → w ≡ released (getD (d .slots) s emptyEntry .slot) b 0 u → x ≡ released (getD (d .slots) (16 + s) emptyEntry .slot) b 1 u
+    → y ≡ released (getD (d .slots) (32 + s) emptyEntry .slot) b 2 u → z ≡ released (getD (d .slots) (48 + s) emptyEntry .slot) b 3 u
+    → _≡_ {A = Directory}
+    (record {
+      slots =
+          set (set (set (set (set (d .slots) s (record { slot = w })) (16 + s) (record { slot = x })) (32 + s) (record { slot = y })) (48 + s) (record { slot = z })) n
+          (record { slot = Modified b });
+    })
+    (claimedAtOnce u b d)
+unfolding claimedAtOnce releaseInto setSlot slotAt
+claimed-list d u b s n w x y z hs hn hw hx hy hz =
+    let e₀ : place 0 b ≡ s = place-at 0 b s hs ∙ omega arith in
+    let e₁ : place 1 b ≡ 16 + s = place-at 1 b s hs ∙ omega arith in
+    let e₂ : place 2 b ≡ 32 + s = place-at 2 b s hs ∙ omega arith in
+    let e₃ : place 3 b ≡ 48 + s = place-at 3 b s hs ∙ omega arith in
+    rw (e₀, e₁, e₂, e₃, hn, hw, hx, hy, hz) refl
+
+-- the owner of a block, from the four slots in which it has its place
+pub owner-column : (d : Directory) (b s : ℕ) → s ≡ b % 16
+    → firstModified (getD (d .slots) s emptyEntry .slot) (getD (d .slots) (16 + s) emptyEntry .slot) (getD (d .slots) (32 + s) emptyEntry .slot) (getD (d .slots) (48 + s) emptyEntry .slot) b ≡ ownerOf d b
+unfolding firstModified ownerOf slotAt
+owner-column d b s h =
+    let e₀ : place 0 b ≡ s = place-at 0 b s h ∙ omega arith in
+    let e₁ : place 1 b ≡ 16 + s = place-at 1 b s h ∙ omega arith in
+    let e₂ : place 2 b ≡ 32 + s = place-at 2 b s h ∙ omega arith in
+    let e₃ : place 3 b ≡ 48 + s = place-at 3 b s h ∙ omega arith in
+    rw (e₀, e₁, e₂, e₃) refl

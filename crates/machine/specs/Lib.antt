@@ -1,0 +1,3 @@
+-- What stands between the code and the definitions of `coherence`.
+pub mod Directory
+pub mod Access

@@ -1,0 +1,237 @@
+// The directory's slots: one read, one set, the test of the rules, the unit that has a block EM, and a claim.
+ghost use mathlib.Core.Path.{_≡_};
+ghost use Prim.Native.Nat.{_<_, _≤_};
+ghost use Rattle.coherence.specs.Slots.{place, slotAt, setSlot, holds, modified, ownerOf, sound, coldDirectory};
+ghost use Rattle.machine.specs.Directory.{rankOf, blockOr, misplacedIn, conflictOf, faultsOf, firstModified, released, claimedAtOnce};
+use coherence::Directory;
+use coherence::Entry;
+use coherence::Slot;
+
+pub(crate) fn slot_at(directory: Directory, n: usize) -> Slot
+    requires { ⌜ n < 64 ⌝ }
+    ensures { λ r. ⌜ r ≡ slotAt directory n ⌝ }
+{
+    let entry = directory.slots[n];
+    let slot = entry.slot;
+    slot
+}
+
+pub(crate) fn set_slot(directory: Directory, n: usize, slot: Slot) -> Directory
+    requires { ⌜ n < 64 ⌝ }
+    ensures { λ r. ⌜ r ≡ setSlot directory n slot ⌝ }
+{
+    let mut left = directory;
+    left.slots[n] = Entry { slot };
+    left
+}
+
+// The number of the unit's slot in which the block has its place.
+pub(crate) fn place_of(unit: u8, block: u8) -> usize
+    requires { ⌜ unit < 4 ⌝ }
+    ensures { λ r. ⌜ (r ≡ place unit block) × (r < 64) ⌝ }
+{
+    16 * (unit as usize) + (block % 16) as usize
+}
+
+pub(crate) fn holds_block(slot: Slot, block: u8) -> bool
+    ensures { λ r. ⌜ r ≡ holds slot block ⌝ }
+{
+    match slot {
+        Slot::Invalid => false,
+        Slot::Shared(b) => b == block,
+        Slot::Modified(b) => b == block,
+    }
+}
+
+pub(crate) fn has_modified(slot: Slot, block: u8) -> bool
+    ensures { λ r. ⌜ r ≡ modified slot block ⌝ }
+{
+    match slot {
+        Slot::Invalid => false,
+        Slot::Shared(_) => false,
+        Slot::Modified(b) => b == block,
+    }
+}
+
+pub(crate) fn cold_directory() -> Directory
+    ensures { λ r. ⌜ r ≡ coldDirectory ⌝ }
+{
+    let entry = Entry {
+        slot: Slot::Invalid,
+    };
+    let slots = [entry; 64];
+    Directory { slots }
+}
+
+// 0 invalid, 1 shared, 2 modified.
+fn rank(slot: Slot) -> u16
+    ensures { λ r. ⌜ (r ≡ rankOf slot) × (r ≤ 2) ⌝ }
+{
+    match slot {
+        Slot::Invalid => 0,
+        Slot::Shared(_) => 1,
+        Slot::Modified(_) => 2,
+    }
+}
+
+// The block of a valid slot, else s.
+fn block_or(slot: Slot, s: u16) -> u16
+    ensures { λ r. ⌜ r ≡ blockOr slot s ⌝ }
+{
+    match slot {
+        Slot::Invalid => s,
+        Slot::Shared(b) => b as u16,
+        Slot::Modified(b) => b as u16,
+    }
+}
+
+// 1 where block b may not stand in slot s of a unit, else 0.
+fn misplaced(b: u16, s: u16) -> u16
+    ensures { λ r. ⌜ (r ≡ misplacedIn b s) × (r ≤ 1) ⌝ }
+{
+    if b < 64 {
+        if b % 16 == s { 0 } else { 1 }
+    } else {
+        1
+    }
+}
+
+// 1 where two units' slots have one block, one of them EM and the other valid, else 0.
+fn conflict(b: u16, rank_b: u16, c: u16, rank_c: u16) -> u16
+    requires { ⌜ («rank_b» ≤ 2) × («rank_c» ≤ 2) ⌝ }
+    ensures { λ r. ⌜ (r ≡ conflictOf b «rank_b» c «rank_c») × (r ≤ 1) ⌝ }
+{
+    if b == c {
+        if rank_b + rank_c < 3 { 0 } else { 1 }
+    } else {
+        0
+    }
+}
+
+// How many rules the four units' slots s break: each by itself, and each two together.
+fn faults(s: u16, w: Slot, x: Slot, y: Slot, z: Slot) -> u16
+    ensures { λ r. ⌜ (r ≡ faultsOf s w x y z) × (r ≤ 10) ⌝ }
+{
+    let bw = block_or(w, s);
+    let bx = block_or(x, s);
+    let by = block_or(y, s);
+    let bz = block_or(z, s);
+    let rw = rank(w);
+    let rx = rank(x);
+    let ry = rank(y);
+    let rz = rank(z);
+    let f0 = misplaced(bw, s);
+    let f1 = misplaced(bx, s);
+    let f2 = misplaced(by, s);
+    let f3 = misplaced(bz, s);
+    let c0 = conflict(bw, rw, bx, rx);
+    let c1 = conflict(bw, rw, by, ry);
+    let c2 = conflict(bw, rw, bz, rz);
+    let c3 = conflict(bx, rx, by, ry);
+    let c4 = conflict(bx, rx, bz, rz);
+    let c5 = conflict(by, ry, bz, rz);
+    f0 + f1 + f2 + f3 + c0 + c1 + c2 + c3 + c4 + c5
+}
+
+// The test of the rules: one pass over the slot numbers, faults summed, with no early exit.
+pub(crate) fn is_sound(directory: Directory) -> bool
+    ensures { λ r. ⌜ r ≡ sound directory ⌝ }
+{
+    let slots = directory.slots;
+    let mut bad: u16 = 0;
+    let mut s = 0;
+    while s < 16 {
+        let w = slots[s];
+        let x = slots[16 + s];
+        let y = slots[32 + s];
+        let z = slots[48 + s];
+        let ws = w.slot;
+        let xs = x.slot;
+        let ys = y.slot;
+        let zs = z.slot;
+        bad += faults(s as u16, ws, xs, ys, zs);
+        s += 1;
+    }
+    bad == 0
+}
+
+// The first of the four units whose slot has the block EM, or 4.
+fn first_modified(w: Slot, x: Slot, y: Slot, z: Slot, block: u8) -> u8
+    ensures { λ r. ⌜ r ≡ firstModified w x y z block ⌝ }
+{
+    if has_modified(w, block) {
+        return 0;
+    }
+    if has_modified(x, block) {
+        return 1;
+    }
+    if has_modified(y, block) {
+        return 2;
+    }
+    if has_modified(z, block) {
+        return 3;
+    }
+    4
+}
+
+// The unit that has the block EM, or 4.
+pub(crate) fn owner(directory: Directory, block: u8) -> u8
+    ensures { λ r. ⌜ r ≡ ownerOf directory block ⌝ }
+{
+    let slots = directory.slots;
+    let s = (block % 16) as usize;
+    let w = slots[s];
+    let x = slots[16 + s];
+    let y = slots[32 + s];
+    let z = slots[48 + s];
+    let ws = w.slot;
+    let xs = x.slot;
+    let ys = y.slot;
+    let zs = z.slot;
+    first_modified(ws, xs, ys, zs, block)
+}
+
+// The slot of unit v once unit u claims the block: no other unit holds it any more.
+fn release(slot: Slot, block: u8, v: u8, u: u8) -> Slot
+    ensures { λ r. ⌜ r ≡ released slot block v u ⌝ }
+{
+    if v == u {
+        return slot;
+    }
+    if holds_block(slot, block) {
+        Slot::Invalid
+    } else {
+        slot
+    }
+}
+
+// The directory once the unit claims the block. The four slots are read before any is written.
+pub(crate) fn claimed(directory: Directory, unit: u8, block: u8) -> Directory
+    requires { ⌜ unit < 4 ⌝ }
+    ensures { λ r. ⌜ r ≡ claimedAtOnce unit block directory ⌝ }
+{
+    let slots = directory.slots;
+    let s = (block % 16) as usize;
+    let w = slots[s];
+    let x = slots[16 + s];
+    let y = slots[32 + s];
+    let z = slots[48 + s];
+    let ws = w.slot;
+    let xs = x.slot;
+    let ys = y.slot;
+    let zs = z.slot;
+    let w2 = release(ws, block, 0, unit);
+    let x2 = release(xs, block, 1, unit);
+    let y2 = release(ys, block, 2, unit);
+    let z2 = release(zs, block, 3, unit);
+    let n = place_of(unit, block);
+    let mut left = directory;
+    left.slots[s] = Entry { slot: w2 };
+    left.slots[16 + s] = Entry { slot: x2 };
+    left.slots[32 + s] = Entry { slot: y2 };
+    left.slots[48 + s] = Entry { slot: z2 };
+    left.slots[n] = Entry {
+        slot: Slot::Modified(block),
+    };
+    left
+}

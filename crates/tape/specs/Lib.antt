@@ -1,0 +1,7 @@
+-- The tape: numbers and records as bytes.
+pub mod Number
+pub mod Field
+pub mod Record
+pub mod Write
+pub mod Reader
+pub mod RoundTrip

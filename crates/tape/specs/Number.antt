@@ -1,0 +1,72 @@
+-- Numbers on the tape (document 01, "The tape"): groups of seven bits, low group first, the high bit set on all but the last; the shortest spelling only.
+use Prim.Native.Nat.{ℕ, zero, suc, _+_, _*_, _%_, _/_, _<_}
+use mathlib.Core.List.{List, [], _∷_, _++_}
+use mathlib.Core.Bool.{cond}
+use lib.ListN.{length, getD}
+use lib.Dec.{ltb, leb}
+use Rattle.order.specs.Refusal.{accepted, cut, badNumber}
+use Rattle.tape.specs.declared.number.Groups.{Groups}
+use Rattle.tape.specs.declared.number.Groups.the-variants.{Value, Cut, Bad}
+use Rattle.tape.specs.declared.number.NumberRead.{NumberRead}
+use Rattle.tape.specs.declared.number.NumberRead.the-variants.{Number, Refused}
+
+-- "At most five groups, the fifth at most 15": the most groups, and the most that the last of so many can hold
+abbrev pub groups : ℕ
+groups = 5
+
+abbrev pub last : ℕ
+last = 15
+
+-- the most that a group which ends a number can hold, where `left` more could follow it
+unfoldable pub limitOf : ℕ → ℕ → ℕ
+limitOf last zero = last
+limitOf last (suc left) = 127
+
+-- the byte b in front of what follows: "a last group of 0 is allowed only as the sole group"
+unfoldable pub carried : ℕ → Groups → Groups
+carried b (Value zero next) = Bad
+carried b (Value (suc v) next) = Value (suc v * 128 + b % 128) next
+carried b Cut = Cut
+carried b Bad = Bad
+
+-- the number of at most so many groups that starts at a place
+unfoldable pub readGroups : ℕ → ℕ → List ℕ → ℕ → Groups
+readGroups last zero tape at = Bad
+readGroups last (suc left) tape at =
+    cond (ltb at (length tape))
+    (cond (leb (getD tape at 0) (limitOf last left))
+    (Value (getD tape at 0) (at + 1))
+    (carried (getD tape at 0) (readGroups last left tape (at + 1))))
+    Cut
+
+-- document 01, "Numbers of refusal": 6 where a byte breaks the spelling, 5 where the tape ends and no byte broke it, at the number's start
+unfoldable pub refusing : ℕ → Groups → NumberRead
+refusing at (Value v next) = Number v next
+refusing at Cut = Refused cut at
+refusing at Bad = Refused badNumber at
+
+unfoldable pub numberAt : List ℕ → ℕ → NumberRead
+numberAt tape at = refusing at (readGroups last groups tape at)
+
+-- the number, if there is one, is below m
+unfoldable pub Below : ℕ → Groups → Type 0
+Below m (Value v next) = v < m
+Below m Cut = Unit {0}
+Below m Bad = Unit {0}
+
+-- the shortest spelling, of at most so many groups
+unfoldable pub spellGroups : ℕ → ℕ → List ℕ
+spellGroups zero n = []
+spellGroups (suc left) n = cond (ltb n 128) (n ∷ []) ((n % 128 + 128) ∷ spellGroups left (n / 128))
+
+unfoldable pub spell : ℕ → List ℕ
+spell n = spellGroups groups n
+
+-- the spellings of several numbers, one after the other
+unfoldable pub spellAll : List ℕ → List ℕ
+spellAll [] = []
+spellAll (n ∷ ns) = spell n ++ spellAll ns
+
+-- each element is a byte
+unfoldable pub Bytes : List ℕ → Type 0
+Bytes tape = (i : ℕ) → getD tape i 0 < 256

@@ -1,0 +1,42 @@
+-- What a record is written as (document 01, "The tape"), and what writing answers and leaves in the lent space ("Numbers of refusal").
+use Prim.Native.Nat.{ℕ, _≤_}
+use mathlib.Core.Path.{_≡_}
+use mathlib.Core.List.{List, _∷_, _++_}
+use mathlib.Core.Option.{Option·elim}
+use mathlib.Core.Bool.{Bool, false, cond}
+use lib.ListN.{length, take, drop}
+use lib.Dec.{leb}
+use Rattle.order.specs.Refusal.{fieldRange, noRoom}
+use Rattle.tape.specs.declared.record.Record.{Record}
+use Rattle.tape.specs.declared.write.Written.{Written}
+use Rattle.tape.specs.declared.write.Written.the-variants as wrote
+use Rattle.tape.specs.Number.{spellAll}
+use Rattle.tape.specs.Record.{layoutOf, kindOf, fieldsOf, fits}
+
+-- each field is one that the table allows
+unfoldable pub valid : Record → Bool
+valid r = Option·elim (layoutOf (kindOf r)) false λ layout. fits layout (fieldsOf r)
+
+-- the record's kind and fields, one after the other
+unfoldable pub bytesOf : Record → List ℕ
+bytesOf r = spellAll (kindOf r ∷ fieldsOf r)
+
+-- the answer for a space of so many bytes: "writing a record tests 8, then 9; .. answers how many"
+unfoldable pub writtenOf : Record → ℕ → Written
+writtenOf r room =
+    cond (valid r)
+    (cond (leb (length (bytesOf r)) room) (wrote.Bytes (length (bytesOf r))) (wrote.Refused noRoom))
+    (wrote.Refused fieldRange)
+
+-- the space afterwards: "it fills the first bytes of the lent space .. and the rest of the space stays"; refused, all of it stays
+unfoldable pub spaceAfter : Record → List ℕ → List ℕ
+spaceAfter r space =
+    cond (valid r)
+    (cond (leb (length (bytesOf r)) (length space)) (bytesOf r ++ drop (length (bytesOf r)) space) space)
+    space
+
+-- the first count of seven values are the numbers ns
+pub record Spells (ns : List ℕ) (count : ℕ) (values : List ℕ) : Type 0 where
+  pub few : count ≤ 7
+  pub long : length values ≡ 7
+  pub same : take count values ≡ ns

@@ -1,0 +1,71 @@
+// The fields of a record: which numbers each may hold (document 01, "The tape").
+use crate::number::NumberRead;
+use crate::number::read_number;
+use order::Command;
+use order::FIELD_RANGE;
+ghost use mathlib.Core.Path.{_≡_};
+ghost use mathlib.Core.Bool.{_&&_};
+ghost use Rattle.tape.specs.Field.{retriedMost, allowed, fieldAt};
+
+// The rule of a field. A `Retried` goes by the order's command, and a `To` by the record's `from`.
+pub enum Rule {
+    Unit,
+    Address,
+    Word,
+    Block,
+    Retried(Command),
+    From,
+    To(u64),
+    Byte,
+    Flag,
+    Bct,
+}
+
+pub(crate) fn both(a: bool, b: bool) -> bool
+    ensures { λ r. ⌜ r ≡ a && b ⌝ }
+{
+    if a { b } else { false }
+}
+
+// Only a read and a modified read can be retried.
+fn retried_most(command: Command) -> u64
+    ensures { λ r. ⌜ r ≡ retriedMost command ⌝ }
+{
+    match command {
+        Command::Read => 1,
+        Command::ModifiedRead => 1,
+        Command::Invalidate => 0,
+        Command::Copyback => 0,
+    }
+}
+
+pub(crate) fn allows(rule: Rule, n: u64) -> bool
+    ensures { λ r. ⌜ r ≡ allowed rule n ⌝ }
+{
+    match rule {
+        Rule::Unit => n <= 3,
+        Rule::Address => both(n <= 2044, n % 4 == 0),
+        Rule::Word => n <= 4294967295,
+        Rule::Block => n <= 63,
+        Rule::Retried(command) => n <= retried_most(command),
+        Rule::From => n <= 7,
+        Rule::To(from) => both(n <= 7, n != from),
+        Rule::Byte => n <= 255,
+        Rule::Flag => n <= 1,
+        Rule::Bct => n <= 7,
+    }
+}
+
+// The number that starts at `at`, if the rule allows it.
+pub(crate) fn field(tape: &[u8], at: usize, rule: Rule) -> NumberRead
+    ensures { λ r. ⌜ r ≡ fieldAt rule (now (tape .entry)) at ⌝ }
+{
+    let read = read_number(tape, at);
+    let NumberRead::Number(value, _) = read else {
+        return read;
+    };
+    if allows(rule, value) {
+        return read;
+    }
+    NumberRead::Refused(FIELD_RANGE, at)
+}
