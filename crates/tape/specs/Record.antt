@@ -18,7 +18,7 @@ use Rattle.tape.specs.declared.record.Record.{Record}
 use Rattle.tape.specs.declared.record.Record.the-variants as rec
 use Rattle.tape.specs.declared.record.RecordRead.{RecordRead}
 use Rattle.tape.specs.declared.record.RecordRead.the-variants as out
-use Rattle.tape.specs.Number.{numberAt}
+use Rattle.tape.specs.Number.{numberAt, Told}
 use Rattle.tape.specs.Field.{allowed, fieldAt}
 
 -- the fields of a kind, in order: each with its rule, a command, or no more, which makes the record
@@ -110,6 +110,12 @@ fieldsOf (rec.Order o) = o .unit ∷ commandNumber (o .command) ∷ o .block ∷
 fieldsOf (rec.Answer from to aid code) = from ∷ to ∷ aid ∷ code ∷ []
 fieldsOf (rec.Register from to aid write ra bct) = from ∷ to ∷ aid ∷ flag write ∷ ra ∷ bct ∷ []
 fieldsOf (rec.Loaded unit value) = unit ∷ value ∷ []
+
+-- reading at a place in document 01's numbers: a record's are its kind and fields; "finished" is no refusal, has no numbers, and stays at the place
+unfoldable pub recordTold : ℕ → RecordRead → Told
+recordTold at (out.Record r next) = record { refusal = accepted; place = next; numbers = kindOf r ∷ fieldsOf r }
+recordTold at out.Finished = record { refusal = accepted; place = at; numbers = [] }
+recordTold at (out.Refused number place) = record { refusal = number; place = place; numbers = [] }
 
 unfoldable pub fitsCommand : CommandFound → (Command → Bool) → Bool
 fitsCommand (Known given) rest = rest given
