@@ -1,14 +1,14 @@
 -- Laws of blocks and words in a store.
-use mathlib.Core.Path.{_≡_, refl, sym, ap, _∙_}
-use mathlib.Core.List.{List, [], _∷_, _++_, append-assoc}
+use mathlib.Core.Path.{_≡_, sym, ap, _∙_}
+use mathlib.Core.List.{List, _++_, append-assoc}
 use mathlib.Core.Logic.{_⊎_, inl, inr, ⊎-elim}
-use Prim.Native.Nat.{ℕ, suc, _+_, _*_, _-_, _/_, _%_, _≤_, _<_}
+use Prim.Native.Nat.{ℕ, _+_, _*_, _-_, _/_, _%_, _≤_, _<_}
 use native.Mathlib.Omega.{arith}
 use native.Mathlib.Nat.{add-assoc}
 use lib.ListN.{length, getD, take, drop, set, length-append, length-take, length-drop, length-set, List·getD-append}
 use lib.Seq.{drop-at, take-at, ext-getD, getD-take, getD-drop, getD-append-add, length-take-le, drop-set-lt, drop-set-add, take-set-le, take-set-lt}
 use Rattle.coherence.specs.Bytes.{blockAt, putBlock, wordAt, putWord}
-use Rattle.coherence.proofs.Cases.{lt-or-le, eq-or-ne}
+use Rattle.coherence.proofs.Cases.{lt-or-le}
 
 pub length-block : (l : List ℕ) (k : ℕ) → 32 * k + 32 ≤ length l → length (blockAt l k) ≡ 32
 unfolding blockAt
@@ -110,3 +110,19 @@ word-block l k o h =
     let at : (i : ℕ) → i < 32 → getD (take 32 (drop (32 * k) l)) i 0 ≡ getD l (32 * k + i) 0 =
     λ i b. getD-take 32 (drop (32 * k) l) i 0 b ∙ getD-drop (32 * k) l i 0 in
     simp (at o (omega arith), at (o + 1) (omega arith), at (o + 2) (omega arith), at (o + 3) (omega arith), add-assoc)
+
+-- ---- words at aligned addresses
+address : (a : ℕ) → a ≡ 32 * (a / 32) + a % 32
+address a = omega arith
+
+-- a word is in one block, and a word that is put changes that block alone
+pub word-in-block : (l : List ℕ) (a : ℕ) → a % 4 ≡ 0 → wordAt l a ≡ wordAt (blockAt l (a / 32)) (a % 32)
+word-in-block l a h = ap (wordAt l) (address a) ∙ word-block l (a / 32) (a % 32) (omega arith)
+
+pub word-elsewhere : (l : List ℕ) (a v : ℕ) → a % 4 ≡ 0
+    → (blockAt (putWord l a v) (a / 32) ≡ putWord (blockAt l (a / 32)) (a % 32) v)
+    × ((b : ℕ) → (b ≡ a / 32 → ⊥) → blockAt (putWord l a v) b ≡ blockAt l b)
+word-elsewhere l a v h = (
+  ap (λ (x : ℕ). blockAt (putWord l x v) (a / 32)) (address a) ∙ word-same l (a / 32) (a % 32) v (omega arith),
+  λ b d. ap (λ (x : ℕ). blockAt (putWord l x v) b) (address a) ∙ word-other l (a / 32) b (a % 32) v (omega arith) d,
+)

@@ -1,10 +1,11 @@
--- A call gives at most four orders, whatever the directory and the stores.
+-- A call gives at most four orders, whatever the directory and the stores, and they are the ones in its answer; a refused call gives none.
 use mathlib.Core.Path.{_≡_, refl, ap, _∙_}
 use mathlib.Core.List.{List, [], _∷_, _++_}
 use mathlib.Core.Bool.{Bool, true, false, cond, not, _&&_}
 use Prim.Native.Nat.{ℕ, _+_, _/_, _≤_}
 use native.Mathlib.Omega.{arith}
 use lib.ListN.{length, take, replicate, length-append}
+use borrow.Author.Tests.{ne-eqb}
 use lib.Dec.{ltb, eqb}
 use Rattle.coherence.specs.declared.Slot.{Slot}
 use Rattle.coherence.specs.declared.Slot.the-variants.{Invalid, Shared, Modified}
@@ -16,8 +17,8 @@ use Rattle.coherence.specs.Access.{Run, ready, give, mark, writeBack, co
 use Rattle.coherence.specs.declared.Directory.{Directory}
 use Rattle.coherence.specs.declared.Call.{Call}
 use Rattle.coherence.specs.declared.Call.the-variants.{Load, Store, Flush}
-use Rattle.coherence.specs.Calls.{act, refusal, after, noOrder, packed, answer}
-use Rattle.coherence.specs.Demand3.{ordersIn, AtMostFour}
+use Rattle.coherence.specs.Calls.{act, refusal, after, valueOf, noOrder, packed, answer, memoryAfter, cacheAfter}
+use Rattle.coherence.specs.Demand3.{ordersIn, AnswersOrders, Refused}
 
 -- the orders given so far
 abbrev pub given : Run → ℕ
@@ -119,11 +120,11 @@ after-given d m k c = go (eqb (refusal d m k c) 0)
     go true = omega (arith, act-given c (ready d m k), ready-given d m k)
     go false = omega (arith, ready-given d m k)
 
--- ---- as the answer has them
-pub at-most-four : AtMostFour
-unfolding AtMostFour answer packed
-at-most-four d m k c = after-given d m k c
+after-refused : (d : Directory) (m k : List ℕ) (c : Call) → eqb (refusal d m k c) 0 ≡ false → after d m k c ≡ ready d m k
+unfolding after
+after-refused d m k c t = rw t
 
+-- ---- as the answer has them
 take-front : (os : List Order) → length os ≤ 4 → take (length os) (take 4 (os ++ replicate 4 noOrder)) ≡ os
 take-front [] h = refl
 take-front (a ∷ []) h = refl
@@ -136,3 +137,27 @@ take-front (a ∷ b ∷ c ∷ d ∷ e ∷ os) h = absurd (omega arith)
 pub orders-in : (d : Directory) (m k : List ℕ) (c : Call) → ordersIn (answer d m k c) ≡ after d m k c .orders
 unfolding ordersIn answer packed
 orders-in d m k c = take-front (after d m k c .orders) (after-given d m k c)
+
+pub answers-orders : (d : Directory) (m k : List ℕ) (c : Call) → AnswersOrders d m k c
+unfolding answer packed
+answers-orders d m k c =
+    record { few = after-given d m k c; counted = ap (λ (os : List Order). length os) (orders-in d m k c); rules = orders-in d m k c }
+
+-- ---- a refused call
+ready-left : (d : Directory) (m k : List ℕ)
+    → (ready d m k .orders ≡ []) × (ready d m k .directory ≡ d) × (ready d m k .memory ≡ m) × (ready d m k .cache ≡ k)
+unfolding ready
+ready-left d m k = (refl, refl, refl, refl)
+
+pub refused : (d : Directory) (m k : List ℕ) (c : Call) → (answer d m k c .refusal ≡ 0 → ⊥) → Refused d m k c
+unfolding answer valueOf memoryAfter cacheAfter
+refused d m k c n =
+    let t : eqb (refusal d m k c) 0 ≡ false = ne-eqb (refusal d m k c) 0 n in
+    let e : after d m k c ≡ ready d m k = after-refused d m k c t in
+    record {
+      value = rw t;
+      orders = orders-in d m k c ∙ ap (λ (w : Run). w .orders) e ∙ ready-left d m k .0;
+      directory = ap (λ (w : Run). w .directory) e ∙ ready-left d m k .1;
+      memory = ap (λ (w : Run). w .memory) e ∙ ready-left d m k .2;
+      cache = ap (λ (w : Run). w .cache) e ∙ ready-left d m k .3;
+    }

@@ -4,4 +4,13 @@ pub mod ByteLaws
 pub mod SlotLaws
 pub mod Weights
 pub mod Rules
+pub mod RefusalLaws
+pub mod PlainLaws
 pub mod Counts
+pub mod Invariant
+pub mod Actions
+pub mod Accesses
+pub mod Steps
+pub mod Sessions
+pub mod Theorem
+pub mod Examples

@@ -1,20 +1,18 @@
 -- Laws of the directory, the only door to its array: a slot after a change, what a slot's tests say, the owner of a block, and the directory of
 -- a cold start.
 use mathlib.Core.Path.{_≡_, refl, sym, ap, _∙_}
-use mathlib.Core.List.{List, [], _∷_}
-use mathlib.Core.Bool.{Bool, true, false, cond, _&&_, false≢true}
+use mathlib.Core.Bool.{Bool, true, false, cond, false≢true}
 use mathlib.Core.Logic.{_⊎_, inl, inr}
-use Prim.Native.Nat.{ℕ, zero, suc, _+_, _*_, _/_, _%_, _≤_, _<_}
+use Prim.Native.Nat.{ℕ, _/_, _%_, _≤_, _<_}
 use native.Mathlib.Omega.{arith}
-use lib.ListN.{length, getD, set, replicate, length-set, length-replicate, getD-replicate, List·getD-eq-default}
+use lib.ListN.{length, getD, replicate, length-set, length-replicate, getD-replicate, List·getD-eq-default}
 use lib.Seq.{getD-set-same, getD-set-other}
-use lib.Dec.{eqb}
 use borrow.Author.Tests.{eqb-true, eq-eqb}
 use Rattle.coherence.specs.declared.Slot.{Slot}
 use Rattle.coherence.specs.declared.Slot.the-variants.{Invalid, Shared, Modified}
 use Rattle.coherence.specs.declared.Entry.{Entry}
 use Rattle.coherence.specs.declared.Directory.{Directory}
-use Rattle.coherence.specs.Slots.{emptyEntry, place, slotAt, setSlot, holds, modified, ownerOf, allBelow, coldDirectory}
+use Rattle.coherence.specs.Slots.{emptyEntry, place, slotAt, setSlot, holds, modified, ownerOf, coldDirectory}
 use Rattle.coherence.proofs.Cases.{lt-or-le, four}
 
 unfoldable pub size : Directory → ℕ
@@ -45,10 +43,6 @@ place-mod u b = omega arith
 pub place-of : (n b : ℕ) → n < 64 → b % 16 ≡ n % 16 → (n / 16 < 4) × (n ≡ place (n / 16) b)
 unfolding place
 place-of n b l e = (omega arith, omega arith)
-
-pub place-unit : (v n b : ℕ) → place v b ≡ n → v ≡ n / 16
-unfolding place
-place-unit v n b e = omega arith
 
 pub place-ne : (u v b : ℕ) → (v ≡ u → ⊥) → place u b ≡ place v b → ⊥
 unfolding place

@@ -10,7 +10,7 @@ use Rattle.order.specs.declared.Order.{Order}
 use Rattle.coherence.specs.declared.Slot.{Slot}
 use Rattle.coherence.specs.declared.Slot.the-variants.{Invalid, Shared, Modified}
 use Rattle.coherence.specs.declared.Directory.{Directory}
-use Rattle.coherence.specs.Bytes.{blockAt, putBlock, wordAt, putWord}
+use Rattle.coherence.specs.Bytes.{blockAt, putBlock, putWord}
 use Rattle.coherence.specs.Slots.{place, slotAt, setSlot, holds, modified, ownerOf}
 
 -- the machine in the middle of a call, with the orders that the call has given so far
@@ -65,7 +65,7 @@ empty u n w = emptied u n (slotAt (w .directory) n) w
 unfoldable pub yield : ℕ → Command → ℕ → ℕ → Run → Run
 yield u k b v w = cond (ltb v 4) (copyback v (place v b) b (give u k b true w)) w
 
--- "and u gives the same order again, not retried": unit u's order k for block b
+-- "and u gives the same order again, not retried": unit u's order k for block b, which u does not hold
 unfoldable pub ask : ℕ → Command → ℕ → Run → Run
 ask u k b w = give u k b false (yield u k b (ownerOf (w .directory) b) w)
 

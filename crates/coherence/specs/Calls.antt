@@ -1,7 +1,6 @@
 -- What cold start and each call answer and leave, refusals included: the definitions that the contracts cite. A call is given the directory d,
 -- the memory store m and the cache store k.
 use Prim.Native.Nat.{ℕ}
-use mathlib.Core.Path.{_≡_}
 use mathlib.Core.Bool.{Bool, false, cond}
 use mathlib.Core.List.{List, [], _∷_, _++_}
 use lib.ListN.{length, take, replicate}
@@ -96,3 +95,15 @@ unfoldable pub answers : Directory → List ℕ → List ℕ → List Call → L
 answers d m k [] = []
 answers d m k (c ∷ cs) =
     answer d m k c ∷ answers (answer d m k c .directory) (memoryAfter d m k c) (cacheAfter d m k c) cs
+
+-- what the last of them leaves
+unfoldable pub afterAll : Directory → List ℕ → List ℕ → List Call → Run
+afterAll d m k [] = ready d m k
+afterAll d m k (c ∷ cs) = afterAll (answer d m k c .directory) (memoryAfter d m k c) (cacheAfter d m k c) cs
+
+-- the same after an accepted cold start on the memory store m
+unfoldable pub answersCold : List ℕ → List Call → List Answer
+answersCold m cs = answers coldDirectory m (replicate storeSize 0) cs
+
+unfoldable pub afterCold : List ℕ → List Call → Run
+afterCold m cs = afterAll coldDirectory m (replicate storeSize 0) cs

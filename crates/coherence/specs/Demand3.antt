@@ -2,7 +2,7 @@
 -- answers that meet the contracts of cold start and of the calls.
 use Prim.Native.Nat.{ℕ, _+_, _*_, _≤_}
 use mathlib.Core.Path.{_≡_}
-use mathlib.Core.Bool.{Bool, cond}
+use mathlib.Core.Bool.{cond}
 use mathlib.Core.List.{List, [], _∷_, map}
 use lib.ListN.{length, take}
 use lib.Dec.{eqb}
@@ -13,10 +13,10 @@ use Rattle.coherence.specs.declared.Call.{Call}
 use Rattle.coherence.specs.declared.Call.the-variants.{Load, Store, Flush}
 use Rattle.coherence.specs.declared.Answer.{Answer}
 use Rattle.coherence.specs.declared.Start.{Start}
-use Rattle.coherence.specs.Bytes.{blockAt}
+use Rattle.coherence.specs.Bytes.{storeSize, blockAt}
 use Rattle.coherence.specs.Slots.{Exclusive}
 use Rattle.coherence.specs.Refusal.{peekRefusal}
-use Rattle.coherence.specs.Calls.{answer, memoryAfter, cacheAfter, startAnswer, cacheStarted}
+use Rattle.coherence.specs.Calls.{answer, memoryAfter, cacheAfter, startAnswer, cacheStarted, after, answersCold, afterCold}
 use Rattle.coherence.specs.Peek.{peeked}
 use Rattle.coherence.specs.PlainMemory.{Reply, plainAccepts, plainReplies, plainAfterAll}
 
@@ -77,7 +77,7 @@ isStore (Load u a) = 0
 isStore (Store u a v) = 1
 isStore (Flush u b) = 0
 
--- how many of the calls the plain memory accepts, counted by f
+-- the sum of f over the calls that the plain memory accepts
 unfoldable pub acceptedOf : (Call → ℕ) → List Call → ℕ
 acceptedOf f [] = 0
 acceptedOf f (c ∷ cs) = cond (plainAccepts c) (f c) 0 + acceptedOf f cs
@@ -102,17 +102,33 @@ pub record Demand3 (m : List ℕ) (s : Start) (cs : List Call) (rs : List Answer
   -- the bill: the orders in the answers are at most one for each accepted load and three for each accepted store
   pub bill : ordersGiven rs ≤ loads cs + 3 * stores cs
 
--- demand 3
-unfoldable pub DemandThree : Type 0
-DemandThree =
+-- demand 3, of every session
+unfoldable pub Demand3Holds : Type 0
+Demand3Holds =
     (m : List ℕ) (s : Start) (cs : List Call) (rs : List Answer) (e : Directory) (m′ k′ : List ℕ)
     → Session m s cs rs e m′ k′ → Demand3 m s cs rs
 
 -- ---- beside it
 
--- "Each call answers with its orders in sequence, at most four"
-unfoldable pub AtMostFour : Type 0
-AtMostFour = (d : Directory) (m k : List ℕ) (c : Call) → answer d m k c .orders .count ≤ 4
+-- the claim is about something: every memory store of 2,048 bytes and every list of calls has its session, and its answers are these alone
+pub record Sessions (m : List ℕ) (cs : List Call) : Type 0 where
+  pub some : (k : List ℕ) → length m ≡ storeSize → length k ≡ storeSize
+      → Session m (startAnswer m k) cs (answersCold m cs) (afterCold m cs .directory) (afterCold m cs .memory) (afterCold m cs .cache)
+  pub one : (s : Start) (rs : List Answer) (e : Directory) (m′ k′ : List ℕ) → Session m s cs rs e m′ k′ → rs ≡ answersCold m cs
+
+-- "Each call answers with its orders in sequence, at most four": the orders in the answer are those that the access rules give the call
+pub record AnswersOrders (d : Directory) (m k : List ℕ) (c : Call) : Type 0 where
+  pub few : answer d m k c .orders .count ≤ 4
+  pub counted : length (ordersIn (answer d m k c)) ≡ answer d m k c .orders .count
+  pub rules : ordersIn (answer d m k c) ≡ after d m k c .orders
+
+-- "A refused call gives its number, no orders, .. every other number 0 .., and leaves directory, .. stores .. unchanged."
+pub record Refused (d : Directory) (m k : List ℕ) (c : Call) : Type 0 where
+  pub value : answer d m k c .value ≡ 0
+  pub orders : ordersIn (answer d m k c) ≡ []
+  pub directory : answer d m k c .directory ≡ d
+  pub memory : memoryAfter d m k c ≡ m
+  pub cache : cacheAfter d m k c ≡ k
 
 -- after any list of calls, peek of any block up to 63 is not refused and shows the plain memory's 32 bytes
 pub record PeekPlain (p : List ℕ) (e : Directory) (m k : List ℕ) (b : ℕ) : Type 0 where

@@ -7,3 +7,5 @@ pub mod Calls
 pub mod Peek
 pub mod PlainMemory
 pub mod Demand3
+pub mod Snapshot
+pub mod Examples

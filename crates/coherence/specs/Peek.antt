@@ -1,5 +1,5 @@
 -- Document 01, "Peek": the newest 32 bytes of a block, and where they lie.
-use Prim.Native.Nat.{ℕ, _+_, _*_}
+use Prim.Native.Nat.{ℕ, _*_}
 use mathlib.Core.Bool.{Bool, false, cond}
 use mathlib.Core.List.{List, []}
 use lib.Dec.{ltb, eqb}

@@ -1,0 +1,284 @@
+-- Loads, stores and flushes keep the invariant, and what they cost: a load at most 1, a store at most 1 + e, a flush nothing. A load's word is the
+-- plain memory's.
+use mathlib.Core.Path.{_≡_, refl, sym, ap, _∙_}
+use mathlib.Core.List.{List}
+use mathlib.Core.Bool.{Bool, true, false, cond, not, _&&_, false≢true}
+use mathlib.Core.Logic.{_⊎_, ⊎-elim}
+use Prim.Native.Nat.{ℕ, _+_, _*_, _/_, _%_, _≤_, _<_}
+use native.Mathlib.Omega.{arith}
+use lib.ListN.{length}
+use lib.Dec.{eqb}
+use borrow.Author.Tests.{eqb-true, eqb-false, eq-eqb, ne-eqb}
+use Rattle.order.specs.declared.Command.{Command}
+use Rattle.order.specs.declared.Command.the-variants.{Read, ModifiedRead, Invalidate}
+use Rattle.coherence.specs.declared.Slot.the-variants.{Invalid, Shared, Modified}
+use Rattle.coherence.specs.declared.Directory.{Directory}
+use Rattle.coherence.specs.Bytes.{blockAt, putBlock, wordAt, putWord}
+use Rattle.coherence.specs.Slots.{place, slotAt, holds, modified}
+use Rattle.coherence.specs.Access.{Run, give, mark, empty, eachUnit, ask, fill, fetch, expel, claim, cachePlace, write, load, own, store, flush}
+use Rattle.coherence.specs.Snapshot.{replaced}
+use Rattle.coherence.proofs.Cases.{eq-or-ne}
+use Rattle.coherence.proofs.ByteLaws.{length-block, length-putBlock, length-putWord, block-same, block-other, word-same, word-other, word-block, word-in-block, word-elsewhere}
+use Rattle.coherence.proofs.SlotLaws.{size, slot-same, modified-is, is-modified, holds-is, modified-holds, shared-holds, holds-shared, holds-modified, holds-invalid, invalid≢modified, shared≢modified, modified-one, place-lt, place-mod, place-ne}
+use Rattle.coherence.proofs.Weights.{weight, debt-set}
+use Rattle.coherence.proofs.Invariant.{Beside, change}
+use Rattle.coherence.proofs.Actions.{Keeps, cost, Fewer, Good, good-none, held-place, give-keeps, give-cost, mark-cost, mark-same, mark-other, mark-keeps, drop-good, empty-good, each-good, ask-keeps}
+
+-- ---- a block is fetched
+fill-cost : (e n b : ℕ) (w : Run) → n < size (w .directory) → cost e (fill n b w) ≤ cost e w
+unfolding fill cost
+fill-cost e n b w h = omega (arith, debt-set e (w .directory) n (Shared b) h)
+
+fill-keeps : (p : Beside) (n b : ℕ) (w : Run) → n < 64 → b < 64 → b % 16 ≡ n % 16
+    → ((c : ℕ) → slotAt (w .directory) n ≡ Modified c → ⊥) → ((j : ℕ) → slotAt (w .directory) j ≡ Modified b → ⊥) → Keeps p w
+    → Keeps p (fill n b w) × (slotAt (fill n b w .directory) n ≡ Shared b)
+unfolding fill
+fill-keeps p n b w l k q f g i =
+    let s : n < size (w .directory) = rw (i .slots) l in
+    let r : 32 * n + 32 ≤ length (w .cache) = omega (arith, i .store) in
+    let x : List ℕ = blockAt (w .memory) b in
+    let z : length x ≡ 32 = length-block (w .memory) b (omega (arith, i .memory)) in (
+      change p (w .directory) (w .memory) (w .memory) (w .cache) (putBlock (w .cache) n x) n (Shared b) i
+          (record {
+            place = l;
+            memory = i .memory;
+            store = length-putBlock (w .cache) n x r z ∙ i .store;
+            others = λ j d. block-other (w .cache) n j x r z d;
+            fits = λ c e. rw (← holds-shared b c e) (k, q);
+            copy = λ c e. block-same (w .cache) n x r z ∙ rw (← holds-shared b c e) (i .home b k g);
+            taken = λ c j d e t. shared≢modified b c e;
+            owned = λ c j d t e. g j (rw (holds-shared b c t) e);
+            kept = λ c e. refl;
+            home = λ c m e d. absurd (f c e);
+            under = λ c e. absurd (shared≢modified b c e);
+          }),
+      slot-same (w .directory) n (Shared b) s,
+    )
+
+pub fetch-keeps : (e : ℕ) → 2 ≤ e → (p : Beside) (u : ℕ) (k : Command) (b : ℕ) (w : Run) → u < 4 → b < 64 → Keeps p w
+    → Keeps p (fetch u k b w) × (cost e (fetch u k b w) ≤ cost e w + 1) × (slotAt (fetch u k b w .directory) (place u b) ≡ Shared b)
+unfolding fetch
+fetch-keeps e two p u k b w l m i =
+    let n : ℕ = place u b in
+    let h : n < 64 = place-lt u b l in
+    let w₁ : Run = empty u n w in
+    let w₂ : Run = ask u k b w₁ in
+    let g : Good e p w w₁ × (slotAt (w₁ .directory) n ≡ Invalid) = empty-good e (omega arith) p u n w h i in
+    let a : Keeps p w₂ × (cost e w₂ ≤ cost e w₁ + 1) × Fewer (w₁ .directory) (w₂ .directory) × ((j : ℕ) → slotAt (w₂ .directory) j ≡ Modified b → ⊥) =
+    ask-keeps e two p u k b w₁ (g .0 .keeps) in
+    let f : Keeps p (fill n b w₂) × (slotAt (fill n b w₂ .directory) n ≡ Shared b) =
+    fill-keeps p n b w₂ h m (place-mod u b) (λ c z. invalid≢modified c (sym (g .1) ∙ a .2 .em n c z)) (a .3) (a .0) in
+    let s : n < size (w₂ .directory) = rw (a .0 .slots) h in
+    (f .0, omega (arith, g .0 .cost, fill-cost e n b w₂ s), f .1)
+
+-- ---- a block is claimed
+expel-good : (e : ℕ) (p : Beside) (u b v : ℕ) (w : Run) → v < 4 → Keeps p w → slotAt (w .directory) (place u b) ≡ Shared b
+    → Good e p w (expel u b v w) × (slotAt (expel u b v w .directory) (place u b) ≡ Shared b)
+    × ((v ≡ u → ⊥) → holds (slotAt (expel u b v w .directory) (place v b)) b ≡ true → ⊥)
+unfolding expel
+expel-good e p u b v w l i z = go (eqb v u) (holds (slotAt (w .directory) (place v b)) b) refl refl
+  where
+    n : ℕ
+    n = place v b
+
+    to : Bool → Run
+    to t = cond t (mark n Invalid w) w
+
+    go : (s t : Bool) → eqb v u ≡ s → holds (slotAt (w .directory) n) b ≡ t
+        → Good e p w (to (not s && t)) × (slotAt (to (not s && t) .directory) (place u b) ≡ Shared b)
+        × ((v ≡ u → ⊥) → holds (slotAt (to (not s && t) .directory) n) b ≡ true → ⊥)
+    go true t f g = (good-none i, z, λ q h. q (eqb-true v u f))
+    go false false f g = (good-none i, z, λ q h. false≢true (sym g ∙ h))
+    go false true f g = (
+      drop-good e p n w (place-lt v b l)
+          (λ c y.
+          let x : c ≡ b = holds-modified c b (rw y at g) in
+          let r : place u b ≡ n = i .lone n (place u b) b (rw x at y) (shared-holds _ b z) in
+          shared≢modified b c (sym z ∙ rw r y))
+          i,
+      mark-other n (place u b) Invalid w (place-ne u v b (eqb-false v u f)) ∙ z,
+      λ q h. false≢true (sym (holds-invalid b) ∙ (rw (mark-same n Invalid w (rw (i .slots) (place-lt v b l))) at h)),
+    )
+
+-- block b is taken: what it was is what the plain memory has
+unfoldable pub takeOver : Beside → ℕ → Beside
+takeOver p b = record { plain = p .plain; taken = replaced (p .taken) b (blockAt (p .plain) b) }
+
+takeOver-keeps : (p : Beside) (b : ℕ) (w : Run) → ((n : ℕ) → slotAt (w .directory) n ≡ Modified b → ⊥) → Keeps p w → Keeps (takeOver p b) w
+unfolding takeOver replaced
+takeOver-keeps p b w f i =
+    record {
+      slots = i .slots;
+      memory = i .memory;
+      store = i .store;
+      placed = i .placed;
+      lone = i .lone;
+      copy = i .copy;
+      home = i .home;
+      under = λ n c e. rw (ne-eqb c b (λ z. f n (rw z at e))) (i .under n c e);
+    }
+
+takeOver-taken : (p : Beside) (b : ℕ) → takeOver p b .taken b ≡ blockAt (p .plain) b
+unfolding takeOver replaced
+takeOver-taken p b = rw (eq-eqb b b refl)
+
+pub claim-keeps : (e : ℕ) (p : Beside) (u b : ℕ) (w : Run) → u < 4 → slotAt (w .directory) (place u b) ≡ Shared b → Keeps p w
+    → Keeps (takeOver p b) (claim u b w) × (cost e (claim u b w) ≤ cost e w + e) × (slotAt (claim u b w .directory) (place u b) ≡ Modified b)
+unfolding claim
+claim-keeps e p u b w l f i =
+    let n : ℕ = place u b in
+    let h : n < 64 = place-lt u b l in
+    let w₁ : Run = eachUnit (expel u b) w in
+    let g : Good e p w w₁ × (slotAt (w₁ .directory) n ≡ Shared b)
+    × ((v : ℕ) → v < 4 → (v ≡ u → ⊥) → holds (slotAt (w₁ .directory) (place v b)) b ≡ true → ⊥) =
+    each-good e p (expel u b) (λ x. slotAt (x .directory) n ≡ Shared b) (λ v d. (v ≡ u → ⊥) → holds (slotAt d (place v b)) b ≡ true → ⊥)
+    (λ v x m j y. expel-good e p u b v x m j y)
+    (λ v d d′ y z q t. z q (y .held (place v b) b t))
+    w i f in
+    let i₁ : Keeps p w₁ = g .0 .keeps in
+    let t : holds (slotAt (w₁ .directory) n) b ≡ true = shared-holds _ b (g .1) in
+    let none : (k : ℕ) → slotAt (w₁ .directory) k ≡ Modified b → ⊥ =
+    λ k z. shared≢modified b b (sym (g .1) ∙ ap (slotAt (w₁ .directory)) (i₁ .lone k n b z t) ∙ z) in
+    let j : Keeps (takeOver p b) w₁ = takeOver-keeps p b w₁ none i₁ in
+    let s : n < size (w₁ .directory) = rw (j .slots) h in
+    let c : cost e (mark n (Modified b) w₁) + weight e (slotAt (w₁ .directory) n) ≡ cost e w₁ + e = mark-cost e n (Modified b) w₁ s in (
+      mark-keeps (takeOver p b) n (Modified b) w₁ j
+          (record {
+            place = h;
+            memory = j .memory;
+            store = j .store;
+            others = λ k d. refl;
+            fits = λ a z. rw (← holds-modified b a z) (j .placed n b t .1, j .placed n b t .2);
+            copy = λ a z. rw (← holds-modified b a z) (j .copy n b t);
+            taken = λ a k d z y.
+                let x : holds (slotAt (w₁ .directory) k) b ≡ true = rw (sym (modified-one (Modified b) b a refl z)) at y in
+                let r : (k / 16 < 4) × (k ≡ place (k / 16) b) = held-place p (w₁ .directory) (w₁ .memory) (w₁ .cache) k b i₁ x in
+                g .2 (k / 16) (r .0) (λ v. d (r .1 ∙ ap (λ (m : ℕ). place m b) v)) (rw (r .1) at x);
+            owned = λ a k d z y. d (sym (j .lone k n b (rw (sym (holds-modified b a z)) at y) t));
+            kept = λ a z. refl;
+            home = λ a m z d. absurd (shared≢modified b a (sym (g .1) ∙ z));
+            under = λ a z.
+                rw (← modified-one (Modified b) b a refl z)
+                (i₁ .home b (i₁ .placed n b t .1) none ∙ sym (takeOver-taken p b));
+          }),
+      omega (arith, g .0 .cost),
+      mark-same n (Modified b) w₁ s,
+    )
+
+-- ---- words
+offset : (a : ℕ) → a % 4 ≡ 0 → a % 32 + 4 ≤ 32
+offset a h = omega arith
+
+-- a held word is the plain memory's
+pub word-held : (p : Beside) (u a : ℕ) (w : Run) → a % 4 ≡ 0 → Keeps p w → holds (slotAt (w .directory) (place u (a / 32))) (a / 32) ≡ true
+    → wordAt (w .cache) (cachePlace u a) ≡ wordAt (p .plain) a
+unfolding cachePlace
+word-held p u a w h i t =
+    word-block (w .cache) (place u (a / 32)) (a % 32) (offset a h)
+    ∙ ap (λ (x : List ℕ). wordAt x (a % 32)) (i .copy (place u (a / 32)) (a / 32) t)
+    ∙ sym (word-in-block (p .plain) a h)
+
+-- the plain memory with a word put, its taken blocks as they were
+unfoldable pub written : Beside → ℕ → ℕ → Beside
+written p a v = record { plain = putWord (p .plain) a v; taken = p .taken }
+
+write-keeps : (p : Beside) (u a v : ℕ) (w : Run) → a % 4 ≡ 0 → slotAt (w .directory) (place u (a / 32)) ≡ Modified (a / 32) → Keeps p w
+    → Keeps (written p a v) (write u a v w)
+unfolding write cachePlace written
+write-keeps p u a v w h e i =
+    let k : ℕ = place u (a / 32) in
+    let t : holds (slotAt (w .directory) k) (a / 32) ≡ true = modified-holds _ (a / 32) e in
+    record {
+      slots = i .slots;
+      memory = i .memory;
+      store = length-putWord (w .cache) (32 * k + a % 32) v ∙ i .store;
+      placed = i .placed;
+      lone = i .lone;
+      copy = λ n b g. ⊎-elim
+          (λ (q : n ≡ k).
+          let r : a / 32 ≡ b = holds-modified (a / 32) b (rw (q, e) at g) in
+          rw (q, ← r)
+          (word-same (w .cache) k (a % 32) v (offset a h)
+          ∙ ap (λ (x : List ℕ). putWord x (a % 32) v) (i .copy k (a / 32) t)
+          ∙ sym (word-elsewhere (p .plain) a v h .0)))
+          (λ q.
+          word-other (w .cache) k n (a % 32) v (offset a h) q
+          ∙ i .copy n b g
+          ∙ sym (word-elsewhere (p .plain) a v h .1 b (λ r. q (i .lone k n (a / 32) e (rw r at g)))))
+          (eq-or-ne n k);
+      home = λ b l f. i .home b l f ∙ sym (word-elsewhere (p .plain) a v h .1 b (λ r. f k (rw r e)));
+      under = i .under;
+    }
+
+-- ---- the accesses
+pub load-keeps : (e : ℕ) → 2 ≤ e → (p : Beside) (u a : ℕ) (w : Run) → u < 4 → a % 4 ≡ 0 → a ≤ 2044 → Keeps p w
+    → Keeps p (load u a w) × (cost e (load u a w) ≤ cost e w + 1) × (wordAt (load u a w .cache) (cachePlace u a) ≡ wordAt (p .plain) a)
+unfolding load
+load-keeps e two p u a w l h m i = go (holds (slotAt (w .directory) (place u (a / 32))) (a / 32)) refl
+  where
+    f : Run
+    f = fetch u Read (a / 32) w
+
+    go : (t : Bool) → holds (slotAt (w .directory) (place u (a / 32))) (a / 32) ≡ t
+        → Keeps p (cond t w f) × (cost e (cond t w f) ≤ cost e w + 1) × (wordAt (cond t w f .cache) (cachePlace u a) ≡ wordAt (p .plain) a)
+    go true z = (i, omega arith, word-held p u a w h i z)
+    go false z =
+        let g : Keeps p f × (cost e f ≤ cost e w + 1) × (slotAt (f .directory) (place u (a / 32)) ≡ Shared (a / 32)) =
+        fetch-keeps e two p u Read (a / 32) w l (omega arith) i in
+        (g .0, g .1, word-held p u a f h (g .0) (shared-holds _ (a / 32) (g .2)))
+
+own-keeps : (e : ℕ) → 2 ≤ e → (p : Beside) (u b : ℕ) (w : Run) → u < 4 → b < 64 → Keeps p w
+    → Keeps (cond (modified (slotAt (w .directory) (place u b)) b) p (takeOver p b)) (own u b w)
+    × (cost e (own u b w) ≤ cost e w + (1 + e)) × (slotAt (own u b w .directory) (place u b) ≡ Modified b)
+unfolding own give
+own-keeps e two p u b w l m i = go (modified (slotAt (w .directory) n) b) (holds (slotAt (w .directory) n) b) refl refl
+  where
+    n : ℕ
+    n = place u b
+
+    w₁ : Run
+    w₁ = give u Invalidate b false w
+
+    w₂ : Run
+    w₂ = fetch u ModifiedRead b w
+
+    Owns : Bool → Run → Type 0
+    Owns s x = Keeps (cond s p (takeOver p b)) x × (cost e x ≤ cost e w + (1 + e)) × (slotAt (x .directory) n ≡ Modified b)
+
+    go : (s t : Bool) → modified (slotAt (w .directory) n) b ≡ s → holds (slotAt (w .directory) n) b ≡ t → Owns s (cond s w (claim u b (cond t w₁ w₂)))
+    go true t y f = (i, omega arith, modified-is _ b y)
+    go false true y f =
+        let s : slotAt (w .directory) n ≡ Shared b = ⊎-elim (λ q. q) (λ q. absurd (false≢true (sym y ∙ is-modified _ b q))) (holds-is _ b f) in
+        let g : Keeps (takeOver p b) (claim u b w₁) × (cost e (claim u b w₁) ≤ cost e w₁ + e) × (slotAt (claim u b w₁ .directory) n ≡ Modified b) =
+        claim-keeps e p u b w₁ l s (give-keeps p u Invalidate b false w i) in
+        (g .0, omega (arith, g .1, give-cost e u Invalidate b false w), g .2)
+    go false false y f =
+        let h : Keeps p w₂ × (cost e w₂ ≤ cost e w + 1) × (slotAt (w₂ .directory) n ≡ Shared b) = fetch-keeps e two p u ModifiedRead b w l m i in
+        let g : Keeps (takeOver p b) (claim u b w₂) × (cost e (claim u b w₂) ≤ cost e w₂ + e) × (slotAt (claim u b w₂ .directory) n ≡ Modified b) =
+        claim-keeps e p u b w₂ l (h .2) (h .0) in
+        (g .0, omega arith, g .2)
+
+-- a store by unit u into block b, in the directory d
+unfoldable pub storing : Directory → ℕ → ℕ → Beside → Beside
+storing d u b p = cond (modified (slotAt d (place u b)) b) p (takeOver p b)
+
+pub store-keeps : (e : ℕ) → 2 ≤ e → (p : Beside) (u a v : ℕ) (w : Run) → u < 4 → a % 4 ≡ 0 → a ≤ 2044 → Keeps p w
+    → Keeps (written (storing (w .directory) u (a / 32) p) a v) (store u a v w) × (cost e (store u a v w) ≤ cost e w + (1 + e))
+unfolding store write cost storing
+store-keeps e two p u a v w l h m i =
+    let g = own-keeps e two p u (a / 32) w l (omega arith) i in
+    (write-keeps _ u a v (own u (a / 32) w) h (g .2) (g .0), g .1)
+
+pub flush-keeps : (e : ℕ) → 2 ≤ e → (p : Beside) (u b : ℕ) (w : Run) → u < 4 → Keeps p w
+    → Keeps p (flush u b w) × (cost e (flush u b w) ≤ cost e w)
+unfolding flush
+flush-keeps e two p u b w l i = go (holds (slotAt (w .directory) (place u b)) b)
+  where
+    f : Run
+    f = empty u (place u b) w
+
+    go : (t : Bool) → Keeps p (cond t f w) × (cost e (cond t f w) ≤ cost e w)
+    go true =
+        let g : Good e p w f × (slotAt (f .directory) (place u b) ≡ Invalid) = empty-good e (omega arith) p u (place u b) w (place-lt u b l) i in
+        (g .0 .keeps, g .0 .cost)
+    go false = (i, omega arith)

@@ -1,0 +1,172 @@
+-- One call keeps the invariant, answers as the plain memory does, and costs no more than it is charged; and so does a list of calls. These two are
+-- what demand 3 and its companions follow from.
+use mathlib.Core.Path.{_≡_, refl, sym, ap, ap₂, _∙_}
+use mathlib.Core.List.{List, [], _∷_, map}
+use mathlib.Core.Bool.{Bool, true, false, cond, _&&_}
+use Prim.Native.Nat.{ℕ, _+_, _*_, _/_, _%_, _≤_, _<_}
+use native.Mathlib.Omega.{arith}
+use lib.ListN.{length}
+use lib.Dec.{eqb}
+use Rattle.coherence.specs.declared.Directory.{Directory}
+use Rattle.coherence.specs.declared.Call.{Call}
+use Rattle.coherence.specs.declared.Call.the-variants.{Load, Store, Flush}
+use Rattle.coherence.specs.declared.Answer.{Answer}
+use Rattle.coherence.specs.Bytes.{blockAt, putWord}
+use Rattle.coherence.specs.Slots.{place, slotAt, slotOf, modified, sound, Exclusive}
+use Rattle.coherence.specs.Access.{Run, ready, flush}
+use Rattle.coherence.specs.Refusal.{isUnit}
+use Rattle.coherence.specs.Calls.{unitOf, isTarget, refusal, act, loaded, after, valueOf, answer, memoryAfter, cacheAfter}
+use Rattle.coherence.specs.PlainMemory.{Reply, plainAccepts, plainPut, plainNumber, plainAfter, plainReply, plainReplies, plainAfterAll}
+use Rattle.coherence.specs.Demand3.{Answered, Ran, reply, ordersIn, ordersGiven, acceptedOf, Each}
+use Rattle.coherence.specs.Snapshot.{replaced, takenBy, takenAfter, takenAfterAll}
+use Rattle.coherence.proofs.PlainLaws.{own-words, load-accepted, store-accepted, flush-accepted}
+use Rattle.coherence.proofs.Rules.{rules-test}
+use Rattle.coherence.proofs.RefusalLaws.{call-tests, sized-true}
+use Rattle.coherence.proofs.Counts.{orders-in}
+use Rattle.coherence.proofs.Weights.{debt}
+use Rattle.coherence.proofs.Invariant.{Beside, Inv}
+use Rattle.coherence.proofs.Actions.{Keeps, cost}
+use Rattle.coherence.proofs.Accesses.{takeOver, written, storing, load-keeps, store-keeps, flush-keeps}
+
+-- ---- what the invariant says of the directory
+module _ (p : Beside) (d : Directory) (m k : List ℕ) (i : Inv p d m k) where
+  pub inv-sound : sound d ≡ true
+  inv-sound =
+      rules-test d
+      (λ n b l t. let q : (n < 64) × (b < 64) × (b % 16 ≡ n % 16) = i .placed n b t in (omega arith, q .2))
+      (λ n j b l h e t. ap (λ (x : ℕ). x / 16) (sym (i .lone n j b e t)))
+
+  pub inv-exclusive : Exclusive d
+  unfolding Exclusive slotOf
+  inv-exclusive u v s t b lu lv ls lt e f =
+      let q : 16 * v + t ≡ 16 * u + s = i .lone (16 * u + s) (16 * v + t) b e f in omega arith
+
+  -- the machine accepts a call exactly if the plain memory does
+  pub inv-accepts : (c : Call) → eqb (refusal d m k c) 0 ≡ plainAccepts c
+  unfolding refusal
+  inv-accepts c =
+      rw (call-tests d m k (unitOf c) (isTarget c), sized-true m k (i .memory) (i .store), inv-sound)
+      (two (isUnit (unitOf c)) (isTarget c) ∙ own-words c)
+    where
+      two : (s t : Bool) → eqb (cond s (cond t 0 4) 3) 0 ≡ (s && t)
+      two true true = refl
+      two true false = refl
+      two false t = refl
+
+-- ---- one call
+-- the plain memory and its taken blocks after a call, accepted or not, in the directory d
+unfoldable pub besideAfter : Directory → Call → Beside → Beside
+besideAfter d c p = record { plain = plainAfter c (p .plain); taken = takenAfter d c (p .plain) (p .taken) }
+
+unfoldable pub besideBy : Directory → Call → Beside → Beside
+besideBy d c p = record { plain = plainPut c (p .plain); taken = takenBy d c (p .plain) (p .taken) }
+
+-- what a call may cost: 1 for a load, 1 + e for a store
+unfoldable pub charge : ℕ → Call → ℕ
+charge e (Load u a) = 1
+charge e (Store u a v) = 1 + e
+charge e (Flush u b) = 0
+
+stored : (d : Directory) (u a v : ℕ) (p : Beside) → written (storing d u (a / 32) p) a v ≡ besideBy d (Store u a v) p
+unfolding written storing takeOver besideBy plainPut takenBy
+stored d u a v p = go (modified (slotAt d (place u (a / 32))) (a / 32))
+  where
+    go : (t : Bool) → written (cond t p (takeOver p (a / 32))) a v
+        ≡ record { plain = putWord (p .plain) a v; taken = cond t (p .taken) (replaced (p .taken) (a / 32) (blockAt (p .plain) (a / 32))) }
+    go true = refl
+    go false = refl
+
+acts : (e : ℕ) → 2 ≤ e → (p : Beside) (c : Call) (w : Run) → plainAccepts c ≡ true → Keeps p w
+    → Keeps (besideBy (w .directory) c p) (act c w) × (cost e (act c w) ≤ cost e w + charge e c) × (loaded c (act c w) ≡ plainNumber c (p .plain))
+unfolding act loaded charge besideBy plainPut takenBy plainNumber
+acts e two p (Load u a) w z i =
+    let q : (u ≤ 3) × (a % 4 ≡ 0) × (a ≤ 2044) = load-accepted u a z in
+    load-keeps e two p u a w (omega arith) (q .1) (q .2) i
+acts e two p (Store u a v) w z i =
+    let q : (u ≤ 3) × (a % 4 ≡ 0) × (a ≤ 2044) = store-accepted u a v z in
+    let g = store-keeps e two p u a v w (omega arith) (q .1) (q .2) i in
+    (rw (stored (w .directory) u a v p) at (g .0), g .1, refl)
+acts e two p (Flush u b) w z i =
+    let q : (u ≤ 3) × (b ≤ 63) = flush-accepted u b z in
+    let g : Keeps p (flush u b w) × (cost e (flush u b w) ≤ cost e w) = flush-keeps e two p u b w (omega arith) i in
+    (g .0, omega arith, refl)
+
+-- what the call c comes to, given d, m and k
+pub record Stepped (e : ℕ) (p : Beside) (d : Directory) (m k : List ℕ) (c : Call) : Type 0 where
+  pub keeps : Inv (besideAfter d c p) (answer d m k c .directory) (memoryAfter d m k c) (cacheAfter d m k c)
+  pub says : reply (answer d m k c) ≡ plainReply c (p .plain)
+  pub cost : length (ordersIn (answer d m k c)) + debt e (answer d m k c .directory) ≤ cond (plainAccepts c) (charge e c) 0 + debt e d
+
+-- the same of the machine that it leaves
+record Left (e : ℕ) (p : Beside) (d : Directory) (c : Call) (n v : ℕ) (w : Run) : Type 0 where
+  keeps : Keeps (besideAfter d c p) w
+  accepted : eqb n 0 ≡ plainAccepts c
+  number : v ≡ plainReply c (p .plain) .number
+  cost : length (w .orders) + debt e (w .directory) ≤ cond (plainAccepts c) (charge e c) 0 + debt e d
+
+left : (e : ℕ) → 2 ≤ e → (p : Beside) (d : Directory) (m k : List ℕ) (c : Call) → Inv p d m k
+    → Left e p d c (refusal d m k c) (valueOf d m k c) (after d m k c)
+unfolding valueOf after ready cost besideAfter besideBy plainAfter takenAfter plainReply
+left e two p d m k c i = go (eqb (refusal d m k c) 0) refl
+  where
+    w : Run
+    w = ready d m k
+
+    go : (t : Bool) → eqb (refusal d m k c) 0 ≡ t
+        → Left e p d c (refusal d m k c) (cond t (loaded c (cond t (act c w) w)) 0) (cond t (act c w) w)
+    go true z =
+        let a : plainAccepts c ≡ true = sym (inv-accepts p d m k i c) ∙ z in
+        let h : Keeps (besideBy d c p) (act c w) × (cost e (act c w) ≤ cost e w + charge e c) × (loaded c (act c w) ≡ plainNumber c (p .plain)) =
+        acts e two p c w a i in
+        record { keeps = rw a (h .0); accepted = inv-accepts p d m k i c; number = rw a (h .2); cost = rw a (omega (arith, h .1)) }
+    go false z =
+        let a : plainAccepts c ≡ false = sym (inv-accepts p d m k i c) ∙ z in
+        record { keeps = rw a i; accepted = inv-accepts p d m k i c; number = rw a; cost = rw a (omega arith) }
+
+reply-is : (r : Answer) (x : Reply) → eqb (r .refusal) 0 ≡ x .accepted → r .value ≡ x .number → reply r ≡ x
+unfolding reply
+reply-is r x e f = λ i. record { accepted = e i; number = f i }
+
+plain-accepted : (c : Call) (p : List ℕ) → plainReply c p .accepted ≡ plainAccepts c
+unfolding plainReply
+plain-accepted c p = refl
+
+pub step : (e : ℕ) → 2 ≤ e → (p : Beside) (d : Directory) (m k : List ℕ) (c : Call) → Inv p d m k → Stepped e p d m k c
+unfolding answer memoryAfter cacheAfter
+step e two p d m k c i =
+    let l : Left e p d c (refusal d m k c) (valueOf d m k c) (after d m k c) = left e two p d m k c i in
+    record {
+      keeps = l .keeps;
+      says = reply-is (answer d m k c) (plainReply c (p .plain)) (l .accepted ∙ sym (plain-accepted c (p .plain))) (l .number);
+      cost = rw (orders-in d m k c) (l .cost);
+    }
+
+-- ---- a list of calls
+unfoldable pub besideAfterAll : Directory → Beside → List Call → List Answer → Beside
+besideAfterAll d p cs rs = record { plain = plainAfterAll (p .plain) cs; taken = takenAfterAll d (p .plain) (p .taken) cs rs }
+
+pub record Over (e : ℕ) (p : Beside) (d : Directory) (cs : List Call) (rs : List Answer) (d′ : Directory) (m′ k′ : List ℕ) : Type 0 where
+  pub keeps : Inv (besideAfterAll d p cs rs) d′ m′ k′
+  pub says : map reply rs ≡ plainReplies (p .plain) cs
+  pub exclusive : Each (λ r. Exclusive (r .directory)) rs
+  pub cost : ordersGiven rs + debt e d′ ≤ acceptedOf (charge e) cs + debt e d
+
+pub run : (e : ℕ) → 2 ≤ e → (p : Beside) (d : Directory) (m k : List ℕ) (cs : List Call) (rs : List Answer) (d′ : Directory) (m′ k′ : List ℕ)
+    → Inv p d m k → Ran d m k cs rs d′ m′ k′ → Over e p d cs rs d′ m′ k′
+unfolding Ran Each ordersGiven acceptedOf plainReplies plainAfterAll takenAfterAll besideAfterAll besideAfter
+run e two p d m k [] [] d′ m′ k′ i h =
+    record { keeps = rw (h .0, h .1, h .2) i; says = refl; exclusive = tt; cost = rw (h .0) (omega arith) }
+run e two p d m k [] (r ∷ rs) d′ m′ k′ i h = absurd h
+run e two p d m k (c ∷ cs) [] d′ m′ k′ i h = absurd h
+run e two p d m k (c ∷ cs) (r ∷ rs) d′ m′ k′ i h =
+    let a : Answered d m k c r (h .0) (h .1) = h .2 in
+    let s : Stepped e p d m k c = step e two p d m k c i in
+    let j : Inv (besideAfter d c p) (r .directory) (h .0) (h .1) = rw (a .answers, a .memory, a .cache) (s .keeps) in
+    let o : Over e (besideAfter d c p) (r .directory) cs rs d′ m′ k′ = run e two (besideAfter d c p) (r .directory) (h .0) (h .1) cs rs d′ m′ k′ j (h .3) in
+    let x : length (ordersIn r) + debt e (r .directory) ≤ cond (plainAccepts c) (charge e c) 0 + debt e d = rw (a .answers) (s .cost) in
+    record {
+      keeps = o .keeps;
+      says = ap₂ _∷_ (ap reply (a .answers) ∙ s .says) (o .says);
+      exclusive = (inv-exclusive (besideAfter d c p) (r .directory) (h .0) (h .1) j, o .exclusive);
+      cost = omega (arith, o .cost);
+    }

@@ -1,0 +1,117 @@
+-- Document 01's values, with the cold start on zero memory: the drill's six calls, P11, one answer with all four orders, a stored word byte by byte,
+-- and the boundaries of the tests; and a few runs that a careless rule would get wrong. Each is a computation on the definitions.
+use Prim.Native.Nat.{ℕ}
+use mathlib.Core.Path.{_≡_}
+use mathlib.Core.Bool.{true, false}
+use mathlib.Core.List.{List, [], _∷_, map}
+use lib.ListN.{length, take, drop, replicate}
+use Rattle.order.specs.declared.Command.the-variants.{Read, Copyback}
+use Rattle.coherence.specs.declared.Call.{Call}
+use Rattle.coherence.specs.declared.Call.the-variants.{Load, Store, Flush}
+use Rattle.coherence.specs.declared.Answer.{Answer}
+use Rattle.coherence.specs.declared.Slot.the-variants.{Shared, Modified}
+use Rattle.coherence.specs.Bytes.{storeSize, blockAt}
+use Rattle.coherence.specs.Slots.{setSlot, sound, coldDirectory}
+use Rattle.coherence.specs.Refusal.{startRefusal, peekRefusal}
+use Rattle.coherence.specs.Calls.{answersCold, afterCold}
+use Rattle.coherence.specs.Peek.{peeked}
+use Rattle.coherence.specs.PlainMemory.{plainAccepts}
+use Rattle.coherence.specs.Snapshot.{takenAfterAll}
+use Rattle.coherence.specs.Demand3.{ordersIn, ordersGiven, loads, stores}
+
+unfoldable pub zeros : List ℕ
+zeros = replicate storeSize 0
+
+-- "The tape", the input of "Drill"
+unfoldable pub drillCalls : List Call
+drillCalls = Store 0 72 9 ∷ Load 1 72 ∷ Store 1 72 10 ∷ Load 0 584 ∷ Load 1 584 ∷ Flush 1 2 ∷ []
+
+-- the value of an answer, and how many orders it has
+unfoldable pub valueAndOrders : Answer → ℕ × ℕ
+valueAndOrders r = (r .value, length (ordersIn r))
+
+pub record Drill : Type 0 where
+  -- the loaded values and the orders of each call, as the drill prints them; a store's and a flush's value is 0
+  pub lines : map valueAndOrders (answersCold zeros drillCalls) ≡ (0, 1) ∷ (9, 3) ∷ (0, 1) ∷ (0, 1) ∷ (0, 2) ∷ (0, 0) ∷ []
+  -- "total 6 calls 8 orders"
+  pub total : ordersGiven (answersCold zeros drillCalls) ≡ 8
+
+-- "P11 the first two drill calls: four orders, exactly one load plus three times one store"
+pub record P11 : Type 0 where
+  pub orders : ordersGiven (answersCold zeros (take 2 drillCalls)) ≡ 4
+  pub loads : loads (take 2 drillCalls) ≡ 1
+  pub stores : stores (take 2 drillCalls) ≡ 1
+
+-- a load whose slot has another block EM, of a block that another unit has EM
+unfoldable pub conflict : List Call
+conflict = Store 0 72 9 ∷ Store 1 584 10 ∷ Load 1 72 ∷ []
+
+pub record FourOrders : Type 0 where
+  pub orders :
+      map ordersIn (drop 2 (answersCold zeros conflict))
+      ≡ (record { unit = 1; command = Copyback; block = 18; retried = false }
+      ∷ record { unit = 1; command = Read; block = 2; retried = true }
+      ∷ record { unit = 0; command = Copyback; block = 2; retried = false }
+      ∷ record { unit = 1; command = Read; block = 2; retried = false }
+      ∷ [])
+      ∷ []
+  pub value : map (λ (r : Answer). r .value) (drop 2 (answersCold zeros conflict)) ≡ 9 ∷ []
+
+-- what peek shows after a list of calls, and block b when it was last taken
+unfoldable pub peekAfter : List Call → ℕ → List ℕ
+peekAfter cs b = peeked (afterCold zeros cs .directory) (afterCold zeros cs .memory) (afterCold zeros cs .cache) b
+
+unfoldable pub takenCold : List Call → ℕ → List ℕ
+takenCold cs b = takenAfterAll coldDirectory zeros (blockAt zeros) cs (answersCold zeros cs) b
+
+-- "Words are 4 bytes, most significant first": unit 2 stores 300 at 72, which is byte 8 of its slot 2, and flushes block 2
+pub record StoredBytes : Type 0 where
+  pub cache : take 4 (drop 1096 (afterCold zeros (Store 2 72 300 ∷ []) .cache)) ≡ 0 ∷ 0 ∷ 1 ∷ 44 ∷ []
+  pub memory : take 4 (drop 72 (afterCold zeros (Store 2 72 300 ∷ []) .memory)) ≡ 0 ∷ 0 ∷ 0 ∷ 0 ∷ []
+  pub flushed : take 4 (drop 72 (afterCold zeros (Store 2 72 300 ∷ Flush 2 2 ∷ []) .memory)) ≡ 0 ∷ 0 ∷ 1 ∷ 44 ∷ []
+  -- peek before the flush, and after it
+  pub peeked : take 4 (drop 8 (peekAfter (Store 2 72 300 ∷ []) 2)) ≡ 0 ∷ 0 ∷ 1 ∷ 44 ∷ []
+  pub peekedLater : take 4 (drop 8 (peekAfter (Store 2 72 300 ∷ Flush 2 2 ∷ []) 2)) ≡ 0 ∷ 0 ∷ 1 ∷ 44 ∷ []
+  -- memory under the block that unit 2 took again has what was flushed
+  pub under : take 4 (drop 72 (afterCold zeros (Store 2 72 300 ∷ Flush 2 2 ∷ Store 2 72 9 ∷ []) .memory)) ≡ 0 ∷ 0 ∷ 1 ∷ 44 ∷ []
+  pub taken : take 4 (drop 8 (takenCold (Store 2 72 300 ∷ Flush 2 2 ∷ Store 2 72 9 ∷ []) 2)) ≡ 0 ∷ 0 ∷ 1 ∷ 44 ∷ []
+
+-- "other units holding b become I": all four units read a block, unit 0 stores into it, unit 3 after it, and the others read again
+pub record Invalidations : Type 0 where
+  pub lines :
+      map valueAndOrders (answersCold zeros
+      (Load 0 72 ∷ Load 1 72 ∷ Load 2 72 ∷ Load 3 72 ∷ Store 0 72 9 ∷ Load 1 72 ∷ Load 2 72 ∷ Load 3 72 ∷ Store 3 72 10 ∷ Load 0 72 ∷ []))
+      ≡ (0, 1) ∷ (0, 1) ∷ (0, 1) ∷ (0, 1) ∷ (0, 1) ∷ (9, 3) ∷ (9, 1) ∷ (9, 1) ∷ (0, 1) ∷ (10, 3) ∷ []
+  -- "a held slot becomes I": a flushed SU block is read again
+  pub flush : map valueAndOrders (answersCold zeros (Load 0 72 ∷ Flush 0 2 ∷ Load 0 72 ∷ [])) ≡ (0, 1) ∷ (0, 0) ∷ (0, 1) ∷ []
+
+-- the rules of the directory: slots 3 and 51 are slot 3 of units 0 and 3
+pub record Directories : Type 0 where
+  pub bothShared : sound (setSlot (setSlot coldDirectory 3 (Shared 3)) 51 (Shared 3)) ≡ true
+  pub modifiedAndShared : sound (setSlot (setSlot coldDirectory 3 (Modified 3)) 51 (Shared 3)) ≡ false
+  pub otherBlock : sound (setSlot (setSlot coldDirectory 3 (Modified 3)) 51 (Modified 19)) ≡ true
+  pub wrongSlot : sound (setSlot coldDirectory 0 (Shared 8)) ≡ false
+  pub lastBlock : sound (setSlot coldDirectory 63 (Modified 63)) ≡ true
+  pub noBlock : sound (setSlot coldDirectory 0 (Shared 64)) ≡ false
+
+-- "Addresses 2,044 and 2,048; blocks 63 and 64", and the last unit
+unfoldable pub edgeCalls : List Call
+edgeCalls =
+    Load 3 2044 ∷ Load 0 2048 ∷ Load 0 2 ∷ Load 4 2048 ∷ Store 3 2044 7 ∷ Store 0 2048 7 ∷ Store 4 0 7 ∷ Flush 0 63 ∷ Flush 0 64 ∷ Flush 4 64 ∷ []
+
+pub record Boundaries : Type 0 where
+  pub calls : map (λ (r : Answer). r .refusal) (answersCold zeros edgeCalls) ≡ 0 ∷ 4 ∷ 4 ∷ 3 ∷ 0 ∷ 4 ∷ 3 ∷ 0 ∷ 4 ∷ 3 ∷ []
+  pub plain :
+      map plainAccepts edgeCalls ≡ true ∷ false ∷ false ∷ false ∷ true ∷ false ∷ false ∷ true ∷ false ∷ false ∷ []
+  pub peeks : map (peekRefusal coldDirectory zeros zeros) (63 ∷ 64 ∷ []) ≡ 0 ∷ 4 ∷ []
+  -- a store one byte short
+  pub starts : startRefusal zeros zeros ∷ startRefusal zeros (drop 1 zeros) ∷ startRefusal (drop 1 zeros) zeros ∷ [] ≡ 0 ∷ 1 ∷ 1 ∷ []
+
+pub record Examples : Type 0 where
+  pub drill : Drill
+  pub p11 : P11
+  pub fourOrders : FourOrders
+  pub storedBytes : StoredBytes
+  pub invalidations : Invalidations
+  pub directories : Directories
+  pub boundaries : Boundaries
