@@ -1,9 +1,7 @@
 -- `machine::access::evict_bytes` meets its contract.
 use borrow.Author.Needs.{needs}
-use Rattle.coherence.specs.declared.Slot.the-variants.{Modified}
 use Rattle.coherence.specs.Slots.{blockOf}
 use native.Mathlib.Omega.{arith}
-use mathlib.Core.Path.{_≡_}
 use Rattle.machine.specs.Access.{evictedMemory}
 use Rattle.machine.proofs.access.evict_bytes.Statement.{statement}
 use Rattle.machine.proofs.access.evict_bytes.Tie as tie
@@ -28,18 +26,18 @@ copy-block-requires c κs =
 
 returns : tie.Need-returns
 unfolding evictedMemory
-returns c = cc
+returns c = rw (c .enum-told .given .1)
 
 returns-2 : tie.Need-returns-2
 unfolding evictedMemory
-returns-2 c = cc
+returns-2 c = rw (c .enum-told2 .given .1)
 
 same-length : tie.Need-same-length
 same-length c = search needs
 
 returns-3 : tie.Need-returns-3
 unfolding evictedMemory
-returns-3 c = cc
+returns-3 c = rw (c .before .before .before .before .before .slot .given .1) (c .before .before .copy-block .ensures)
 
 pub evict-bytes-spec : {M : Type 1} → statement M
 evict-bytes-spec =

@@ -21,7 +21,9 @@ same-length-2 c = search needs
 
 returns : tie.Need-returns
 unfolding fetchedMemory fetchedCache
-returns c = (cc, cc)
+returns c =
+    let y = rw (c .before .before .before .before .before .before .before .before .before .before .before .before .evict-bytes .ensures) at (c .before .before .before .before .before .before .before .yield-bytes .ensures) in
+    (y, rw y at (c .before .before .copy-block .ensures))
 
 pub fetch-bytes-spec : {M : Type 1} → statement M
 fetch-bytes-spec =

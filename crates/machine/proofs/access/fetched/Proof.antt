@@ -19,11 +19,13 @@ set-slot-requires-3 c κs = search needs
 
 returns : tie.Need-returns
 unfolding fetchedDirectory yieldedDirectory
-returns c = rw (lt-ltb _ _ (c .before .before .before .if1 .taken)) (cc)
+returns c =
+    let y = rw (c .before .before .place-of .ensures .0) at (c .before .set-slot .ensures) in
+    rw (lt-ltb _ _ (c .before .before .before .if1 .taken)) (rw y at (c .set-slot2 .ensures))
 
 returns-2 : tie.Need-returns-2
 unfolding fetchedDirectory yieldedDirectory
-returns-2 c = rw (le-ltb _ _ (c .before .if1 .left)) (cc)
+returns-2 c = rw (le-ltb _ _ (c .before .if1 .left)) (c .set-slot3 .ensures)
 
 pub fetched-spec : {M : Type 1} → statement M
 fetched-spec =
