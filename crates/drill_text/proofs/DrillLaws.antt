@@ -1,0 +1,89 @@
+-- From the parts of a drill to its whole text, and to what `drill` answers.
+use Prim.Native.Nat.{ℕ, _+_, _≤_, _<_}
+use native.Mathlib.Nat.{zero-add}
+use native.Mathlib.Omega.{arith}
+use mathlib.Core.Path.{_≡_, refl, ap, sym, subst, _∙_}
+use mathlib.Core.Bool.{Bool, true, false, cond}
+use mathlib.Core.List.{List, [], _∷_, _++_}
+use lib.Dec.{leb}
+use lib.ListN.{length}
+use lib.Seq.{sets}
+use borrow.Author.Tests.{leb-true, le-leb, lt-leb}
+use Rattle.order.specs.Refusal.{accepted}
+use Rattle.coherence.specs.declared.Call.{Call}
+use Rattle.coherence.specs.declared.Directory.{Directory}
+use Rattle.coherence.specs.declared.Start.{Start}
+use Rattle.coherence.specs.Slots.{coldDirectory}
+use Rattle.coherence.specs.Refusal.{startRefusal, firstRefusal, sizeTest, sized}
+use Rattle.coherence.specs.Calls.{startAnswer, cacheStarted, answers, answersCold}
+use Rattle.text.specs.Space.{placed}
+use Rattle.text.proofs.SpaceLaws.{placed-room, placed-none}
+use Rattle.drill_text.specs.declared.Drilled.{Drilled}
+use Rattle.drill_text.specs.Records.{readAll}
+use Rattle.drill_text.specs.Line.{refusedLine}
+use Rattle.drill_text.specs.Drill.{tapeMost, textMost, zeroStore, callsIn, answersIn, drillText, drilledIn}
+use Rattle.drill_text.specs.Writing.{Puts, textFrom}
+
+-- ---- the text
+
+pub long-text : (t : List ℕ) → tapeMost < length t → drillText t ≡ refusedLine 9 tapeMost
+unfolding drillText
+long-text t h = rw (lt-leb (length t) tapeMost h)
+
+-- a cold start on stores of zeros
+cleared : cacheStarted zeroStore zeroStore ≡ zeroStore
+unfolding cacheStarted startRefusal firstRefusal sizeTest sized zeroStore
+cleared = refl
+
+pub started-cache : (m k k′ : List ℕ) → m ≡ zeroStore → k ≡ zeroStore → k′ ≡ cacheStarted m k → k′ ≡ zeroStore
+started-cache m k k′ em ek e = e ∙ rw (em, ek) cleared
+
+pub started-directory : (s : Start) (m k : List ℕ) → s ≡ startAnswer m k → s .directory ≡ coldDirectory
+unfolding startAnswer
+started-directory s m k e = ap (λ (x : Start). x .directory) e
+
+cold-answers : (cs : List Call) → answersCold zeroStore cs ≡ answers coldDirectory zeroStore zeroStore cs
+unfolding answersCold zeroStore
+cold-answers cs = refl
+
+pub whole-text : (t : List ℕ) (d : Directory) (m k : List ℕ) → length t ≤ tapeMost → d ≡ coldDirectory → m ≡ zeroStore → k ≡ zeroStore
+    → textFrom d m k 0 0 (readAll t) ≡ drillText t
+unfolding textFrom drillText callsIn answersIn
+whole-text t d m k h ed em ek = rw (le-leb (length t) tapeMost h, cold-answers, ed, em, ek, zero-add, zero-add)
+
+-- ---- the answer. `l` is the empty part of the space that the first run was given
+
+no-part : (l o : List ℕ) → length l ≡ 0 → l ++ o ≡ o
+no-part [] o e = refl
+no-part (x ∷ l) o e = absurd (omega arith)
+
+pub small : (text l o : List ℕ) (n : ℕ) → n ≡ 0 + length text → length l ≡ 0 → length (l ++ o) < n → n ≤ textMost
+    → (_≡_ {A = Drilled} (record { refusal = 9; count = 0 }) (drilledIn text (length o))) × (l ++ o ≡ placed o 0 text) × (textMost ≤ length o → _≡_ {A = ℕ} 9 accepted)
+unfolding drilledIn
+small text l o n e z h b =
+    let s : l ++ o ≡ o = no-part l o z in
+    let h′ : length o < n = rw s at h in
+    (rw (lt-leb (length text) (length o) (omega arith)), s ∙ sym (placed-none o 0 text (lt-leb (0 + length text) (length o) (omega arith))), λ k. absurd (omega arith))
+
+pub large : (text l o o′ : List ℕ) (n r : ℕ) → n ≡ 0 + length text → length l ≡ 0 → n ≤ length (l ++ o) → Puts text (l ++ o) 0 o′ r
+    → (_≡_ {A = Drilled} (record { refusal = 0; count = r }) (drilledIn text (length o))) × (o′ ≡ placed o 0 text) × (textMost ≤ length o → _≡_ {A = ℕ} 0 accepted)
+unfolding drilledIn
+large text l o o′ n r e z h p =
+    let s : l ++ o ≡ o = no-part l o z in
+    let h′ : n ≤ length o = rw s at h in
+    let q : Puts text o 0 o′ r = rw s at p in
+    let m : r ≡ length text = q .next ∙ zero-add (length text) in
+    (rw (le-leb (length text) (length o) (omega arith), m), q .bytes (omega arith) ∙ sym (placed-room o 0 text (le-leb (0 + length text) (length o) (omega arith))), λ k. refl)
+
+-- ---- for a caller: the count lies within the space
+
+within : (text : List ℕ) (room : ℕ) → drilledIn text room .count ≤ room
+unfolding drilledIn
+within text room = go (leb (length text) room) refl
+  where
+    go : (t : Bool) → leb (length text) room ≡ t → drilledIn text room .count ≤ room
+    go true e = rw e (leb-true (length text) room e)
+    go false e = rw e (omega arith)
+
+pub count-within : (r : Drilled) (text : List ℕ) (room n : ℕ) → r ≡ drilledIn text room → n ≡ room → r .count ≤ n
+count-within r text room n e k = rw (e, k) (within text room)

@@ -1,0 +1,7 @@
+pub mod WritingLaws
+pub mod LineLaws
+pub mod StepLaws
+pub mod RecordLaws
+pub mod Underway
+pub mod DrillLaws
+pub mod Claims

@@ -1,0 +1,63 @@
+-- `drill_text::play` meets its contract.
+use mathlib.Core.Path.{refl}
+use native.Mathlib.Omega.{arith}
+use Rattle.drill_text.specs.Drill.{zeroStore}
+use Rattle.drill_text.proofs.DrillLaws.{long-text, started-cache, started-directory, whole-text}
+use borrow.Author.Needs.{needs}
+use Rattle.drill_text.proofs.play.Statement.{statement}
+use Rattle.drill_text.proofs.play.Tie as tie
+
+put-refused-requires : tie.Need-put-refused-requires
+put-refused-requires c κs = search needs
+
+same-length : tie.Need-same-length
+same-length c = search needs
+
+returns : tie.Need-returns
+returns c =
+    let p = c .before .before .put-refused .ensures in
+    rw (long-text (c .before .before .before .before .before .before .before .args .tape .now) (c .before .before .before .before .if1 .taken)) (p .0, omega (arith, p .1))
+
+slice-aggregate-cold-start : tie.Need-slice-aggregate-cold-start
+slice-aggregate-cold-start c = search needs
+
+slice-aggregate-cold-start-2 : tie.Need-slice-aggregate-cold-start-2
+slice-aggregate-cold-start-2 c = search needs
+
+cold-start-requires : tie.Need-cold-start-requires
+cold-start-requires c κs = search needs
+
+slice-aggregate-run-tape : tie.Need-slice-aggregate-run-tape
+slice-aggregate-run-tape c = search needs
+
+slice-aggregate-run-tape-2 : tie.Need-slice-aggregate-run-tape-2
+slice-aggregate-run-tape-2 c = search needs
+
+run-tape-requires : tie.Need-run-tape-requires
+run-tape-requires c κs = search needs
+
+same-length-2 : tie.Need-same-length-2
+same-length-2 c = search needs
+
+returns-2 : tie.Need-returns-2
+unfolding zeroStore
+returns-2 c =
+    let p = c .before .before .before .before .run-tape .ensures in
+    let s = c .before .before .before .before .before .before .before .before .before .before .cold-start in
+    (rw (whole-text (c .before .before .before .before .before .before .before .before .before .before .before .before .before .before .before .before .args .tape .now) _ _ _ (c .before .before .before .before .before .before .before .before .before .before .before .before .before .if1 .left) (started-directory _ _ _ (s .ensures .0)) refl (started-cache _ _ _ refl refl (s .ensures .1))) at (p .0), p .1)
+
+pub play-spec : {M : Type 1} → statement M
+play-spec =
+    tie.close
+    (tie.spec
+    put-refused-requires
+    same-length
+    returns
+    slice-aggregate-cold-start
+    slice-aggregate-cold-start-2
+    cold-start-requires
+    slice-aggregate-run-tape
+    slice-aggregate-run-tape-2
+    run-tape-requires
+    same-length-2
+    returns-2)

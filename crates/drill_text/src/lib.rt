@@ -1,0 +1,56 @@
+// A whole drill as a function from the bytes of a tape to the bytes that are printed.
+ghost use mathlib.Core.Path.{_≡_};
+ghost use Prim.Native.Nat.{_≤_};
+ghost use lib.ListN.{length};
+ghost use Rattle.order.specs.Refusal.{accepted};
+ghost use Rattle.text.specs.Space.{placed};
+ghost use Rattle.drill_text.specs.Drill.{drillText, drilledIn, textMost};
+ghost use Rattle.drill_text.specs.Writing.{Puts};
+
+mod line;
+mod run;
+
+use crate::line::put_refused;
+use machine::cold_start;
+use order::NO_ROOM;
+use run::run_tape;
+
+// The most bytes of a tape, and a space that is long enough for the text of any tape.
+pub const TAPE_MOST: usize = 65536;
+
+pub const TEXT_MOST: usize = 720960;
+
+// `refusal` is 0, or 9 where the lent space is too small; `count` is how many bytes of it the text takes.
+pub struct Drilled {
+    pub refusal: u8,
+    pub count: usize,
+}
+
+// The text of a tape put into `out`, if it has room. The answer is how many bytes it has, in any case.
+fn play(tape: &[u8], out: &mut [u8]) -> usize
+    ensures { λ r. ⌜ Puts (drillText (now (tape .entry))) (now (out .entry)) 0 (now (out .exit)) r × (r ≤ textMost) ⌝ }
+{
+    if TAPE_MOST < tape.len() {
+        return put_refused(out, 0, NO_ROOM, TAPE_MOST);
+    }
+    let mut memory = [0u8; 2048];
+    let mut cache = [0u8; 2048];
+    let start = cold_start(&memory, &mut cache);
+    let directory = start.directory;
+    run_tape(tape, directory, &mut memory, &mut cache, out)
+}
+
+// What a drill on `tape` prints, put at the start of `out`. A first run with no space to write counts the bytes.
+pub fn drill(tape: &[u8], out: &mut [u8]) -> Drilled
+    ensures { λ r. ⌜ (r ≡ drilledIn (drillText (now (tape .entry))) (length (now (out .entry)))) × (now (out .exit) ≡ placed (now (out .entry)) 0 (drillText (now (tape .entry)))) × (textMost ≤ length (now (out .entry)) → r .refusal ≡ accepted) ⌝ }
+{
+    let size = play(tape, &mut out[0..0]);
+    if out.len() < size {
+        return Drilled {
+            refusal: NO_ROOM,
+            count: 0,
+        };
+    }
+    let count = play(tape, out);
+    Drilled { refusal: 0, count }
+}

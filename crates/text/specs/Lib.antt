@@ -1,0 +1,3 @@
+-- Text in a lent space: what a reader has to believe.
+pub mod Space
+pub mod Decimal
