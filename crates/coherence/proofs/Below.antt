@@ -1,33 +1,11 @@
--- A test of every number below a bound, as a loop makes it.
-use mathlib.Core.Path.{_≡_, refl, ap, sym, _∙_}
+-- A test of every number below a bound.
+use mathlib.Core.Path.{_≡_, refl, ap, _∙_}
 use mathlib.Core.Bool.{Bool, true, false, _&&_, false≢true}
 use mathlib.Core.Logic.{⊎-elim}
-use Prim.Native.Nat.{ℕ, zero, suc, _+_, _<_}
+use Prim.Native.Nat.{ℕ, zero, suc, _<_}
 use native.Mathlib.Omega.{arith}
 use native.Mathlib.Nat.{not-suc-le-zero, le-of-suc-le-suc, eq-or-lt-of-le}
-use native.Mathlib.Numerals.{add-one}
 use Rattle.coherence.specs.Slots.{allBelow}
-
-pub below-zero : (f : ℕ → Bool) → allBelow 0 f ≡ true
-unfolding allBelow
-below-zero f = refl
-
-pub below-more : (f : ℕ → Bool) (n : ℕ) → allBelow n f ≡ true → f n ≡ true → allBelow (n + 1) f ≡ true
-unfolding allBelow
-below-more f n p q = rw (add-one n, p, q) refl
-
-and-false : (a : Bool) → (a && false) ≡ false
-and-false true = refl
-and-false false = refl
-
--- one number at which f fails
-pub below-not : (f : ℕ → Bool) (n i : ℕ) → i < n → f i ≡ false → allBelow n f ≡ false
-unfolding allBelow
-below-not f zero i h e = absurd (not-suc-le-zero h)
-below-not f (suc n) i h e = ⊎-elim
-    (λ q. let z : f n ≡ false = ap f (sym q) ∙ e in rw z (and-false (allBelow n f)))
-    (λ l. rw (below-not f n i l e) refl)
-    (eq-or-lt-of-le (le-of-suc-le-suc h))
 
 pub both : (a b : Bool) → (a && b) ≡ true → (a ≡ true) × (b ≡ true)
 both true b e = (refl, e)

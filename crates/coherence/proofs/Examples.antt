@@ -3,22 +3,22 @@ use mathlib.Core.Path.{refl}
 use Rattle.coherence.specs.Bytes.{blockAt, putBlock, wordAt, putWord}
 use Rattle.coherence.specs.Slots.{place, slotAt, setSlot, holds, modified, ownerOf, allBelow, fits, alone, slotRule, sound, coldDirectory}
 use Rattle.coherence.specs.Access.{ready, give, mark, writeBack, copyback, emptied, empty, yield, ask, fill, fetch, eachUnit, expel, claim, cachePlace, write, load, own, store, flush}
-use Rattle.coherence.specs.Refusal.{firstRefusal, sized, isUnit, isAddress, isBlock, sizeTest, directoryTest, unitTest, targetTest, callRefusal, peekRefusal}
+use Rattle.coherence.specs.Refusal.{firstRefusal, sized, isUnit, isAddress, isBlock, sizeTest, directoryTest, unitTest, targetTest, callRefusal, startRefusal, peekRefusal}
 use Rattle.coherence.specs.Calls.{unitOf, isTarget, refusal, act, loaded, after, valueOf, packed, answer, memoryAfter, cacheAfter, answers, afterAll, answersCold, afterCold}
 use Rattle.coherence.specs.Peek.{fromCache, newestBlock, newest, peeked}
 use Rattle.coherence.specs.PlainMemory.{plainAccepts, plainPut, plainAfter}
 use Rattle.coherence.specs.Snapshot.{replaced, takenBy, takenAfter, takenAfterAll}
 use Rattle.coherence.specs.Demand3.{ordersIn, ordersGiven, isLoad, isStore, acceptedOf, loads, stores}
-use Rattle.coherence.specs.Examples.{zeros, drillCalls, valueAndOrders, conflict, peekAfter, takenCold, Examples}
+use Rattle.coherence.specs.Examples.{zeros, drillCalls, valueAndOrders, conflict, edgeCalls, peekAfter, takenCold, Examples}
 
 pub examples : Examples
 unfolding
     blockAt putBlock wordAt putWord place slotAt setSlot holds modified ownerOf allBelow fits alone slotRule sound coldDirectory
     ready give mark writeBack copyback emptied empty yield ask fill fetch eachUnit expel claim cachePlace write load own store flush
-    firstRefusal sized isUnit isAddress isBlock sizeTest directoryTest unitTest targetTest callRefusal peekRefusal
+    firstRefusal sized isUnit isAddress isBlock sizeTest directoryTest unitTest targetTest callRefusal startRefusal peekRefusal
     unitOf isTarget refusal act loaded after valueOf packed answer memoryAfter cacheAfter answers afterAll answersCold afterCold
     fromCache newestBlock newest peeked plainPut plainAfter replaced takenBy takenAfter takenAfterAll peekAfter takenCold
-    plainAccepts ordersIn ordersGiven isLoad isStore acceptedOf loads stores zeros drillCalls valueAndOrders conflict
+    plainAccepts ordersIn ordersGiven isLoad isStore acceptedOf loads stores zeros drillCalls valueAndOrders conflict edgeCalls
 examples =
     record {
       drill = record { lines = refl; total = refl };
@@ -28,5 +28,5 @@ examples =
       invalidations = record { lines = refl; flush = refl };
       directories =
           record { bothShared = refl; modifiedAndShared = refl; otherBlock = refl; wrongSlot = refl; lastBlock = refl; noBlock = refl };
-      boundaries = record { calls = refl; peeks = refl };
+      boundaries = record { calls = refl; plain = refl; peeks = refl; starts = refl };
     }

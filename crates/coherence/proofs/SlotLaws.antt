@@ -1,7 +1,6 @@
 -- Laws of the directory, the only door to its array: a slot after a change, what a slot's tests say, the owner of a block, and the directory of
 -- a cold start.
 use mathlib.Core.Path.{_≡_, refl, sym, ap, _∙_}
-use mathlib.Core.List.{[]}
 use mathlib.Core.Bool.{Bool, true, false, cond, false≢true}
 use mathlib.Core.Logic.{_⊎_, inl, inr}
 use Prim.Native.Nat.{ℕ, _/_, _%_, _≤_, _<_}
@@ -44,10 +43,6 @@ place-mod u b = omega arith
 pub place-of : (n b : ℕ) → n < 64 → b % 16 ≡ n % 16 → (n / 16 < 4) × (n ≡ place (n / 16) b)
 unfolding place
 place-of n b l e = (omega arith, omega arith)
-
-pub place-unit : (v n b : ℕ) → place v b ≡ n → v ≡ n / 16
-unfolding place
-place-unit v n b e = omega arith
 
 pub place-ne : (u v b : ℕ) → (v ≡ u → ⊥) → place u b ≡ place v b → ⊥
 unfolding place

@@ -12,9 +12,10 @@ use Rattle.coherence.specs.declared.Answer.{Answer}
 use Rattle.coherence.specs.declared.Slot.the-variants.{Shared, Modified}
 use Rattle.coherence.specs.Bytes.{storeSize, blockAt}
 use Rattle.coherence.specs.Slots.{setSlot, sound, coldDirectory}
-use Rattle.coherence.specs.Refusal.{peekRefusal}
+use Rattle.coherence.specs.Refusal.{startRefusal, peekRefusal}
 use Rattle.coherence.specs.Calls.{answersCold, afterCold}
 use Rattle.coherence.specs.Peek.{peeked}
+use Rattle.coherence.specs.PlainMemory.{plainAccepts}
 use Rattle.coherence.specs.Snapshot.{takenAfterAll}
 use Rattle.coherence.specs.Demand3.{ordersIn, ordersGiven, loads, stores}
 
@@ -94,12 +95,17 @@ pub record Directories : Type 0 where
   pub noBlock : sound (setSlot coldDirectory 0 (Shared 64)) ≡ false
 
 -- "Addresses 2,044 and 2,048; blocks 63 and 64", and the last unit
+unfoldable pub edgeCalls : List Call
+edgeCalls =
+    Load 3 2044 ∷ Load 0 2048 ∷ Load 0 2 ∷ Load 4 2048 ∷ Store 3 2044 7 ∷ Store 0 2048 7 ∷ Store 4 0 7 ∷ Flush 0 63 ∷ Flush 0 64 ∷ Flush 4 64 ∷ []
+
 pub record Boundaries : Type 0 where
-  pub calls :
-      map (λ (r : Answer). r .refusal) (answersCold zeros
-      (Load 3 2044 ∷ Load 0 2048 ∷ Load 0 2 ∷ Load 4 2048 ∷ Store 3 2044 7 ∷ Store 0 2048 7 ∷ Store 4 0 7 ∷ Flush 0 63 ∷ Flush 0 64 ∷ Flush 4 64 ∷ []))
-      ≡ 0 ∷ 4 ∷ 4 ∷ 3 ∷ 0 ∷ 4 ∷ 3 ∷ 0 ∷ 4 ∷ 3 ∷ []
+  pub calls : map (λ (r : Answer). r .refusal) (answersCold zeros edgeCalls) ≡ 0 ∷ 4 ∷ 4 ∷ 3 ∷ 0 ∷ 4 ∷ 3 ∷ 0 ∷ 4 ∷ 3 ∷ []
+  pub plain :
+      map plainAccepts edgeCalls ≡ true ∷ false ∷ false ∷ false ∷ true ∷ false ∷ false ∷ true ∷ false ∷ false ∷ []
   pub peeks : map (peekRefusal coldDirectory zeros zeros) (63 ∷ 64 ∷ []) ≡ 0 ∷ 4 ∷ []
+  -- a store one byte short
+  pub starts : startRefusal zeros zeros ∷ startRefusal zeros (drop 1 zeros) ∷ startRefusal (drop 1 zeros) zeros ∷ [] ≡ 0 ∷ 1 ∷ 1 ∷ []
 
 pub record Examples : Type 0 where
   pub drill : Drill

@@ -15,7 +15,7 @@ use Rattle.coherence.specs.declared.Entry.{Entry}
 use Rattle.coherence.specs.declared.Directory.{Directory}
 use Rattle.coherence.specs.Slots.{emptyEntry, slotAt, slotOf, blockOf, holds, sound, Exclusive, Rules}
 use Rattle.coherence.proofs.Cases.{four, eq-or-ne, lt-or-le, true-or-false}
-use Rattle.coherence.proofs.SlotLaws.{holds-is, holds-invalid, shared-holds, modified-holds}
+use Rattle.coherence.proofs.SlotLaws.{holds-is, shared-holds, modified-holds}
 use Rattle.coherence.proofs.Rules.{tests-rules}
 use Rattle.machine.specs.Directory.{rankOf, blockOr, misplacedIn, conflictOf, placeFaults, pairFaults, faultsOf, sumBelow}
 

@@ -1,8 +1,8 @@
 -- Laws that several functions' proofs share.
-mod OrderLaws
 mod Faults
+mod Sets
 mod Claims
 mod Copies
 mod Refusals
-mod Actions
+mod Accesses
 mod Calls

@@ -1,7 +1,7 @@
 -- How the code tests the directory and claims a block: the four units' slots of one slot number are taken together. The rules themselves are
 -- `coherence`'s; the proofs show that these come to the same.
 use Prim.Native.Nat.{ℕ, zero, suc, _+_, _%_}
-use mathlib.Core.Bool.{Bool, cond, not, _&&_}
+use mathlib.Core.Bool.{cond, not, _&&_}
 use lib.Dec.{ltb, eqb}
 use Rattle.coherence.specs.declared.Slot.{Slot}
 use Rattle.coherence.specs.declared.Slot.the-variants.{Invalid, Shared, Modified}

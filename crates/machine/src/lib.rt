@@ -14,15 +14,12 @@ mod block;
 mod directory;
 mod refusal;
 
-use access::State;
-use access::cache_place;
 use access::flush_block;
-use access::load_block;
-use access::no_orders;
+use access::load_word;
+use access::refused;
 use access::store_word;
 use block::block_of;
 use block::clear;
-use block::word_at;
 use coherence::Answer;
 use coherence::Call;
 use coherence::Directory;
@@ -38,6 +35,7 @@ use refusal::is_address;
 use refusal::is_sized;
 use refusal::refusal_of;
 
+// All slots invalid, and the cache store all zeros. Refused, it leaves the cache store as it was.
 pub fn cold_start(memory: &[u8], cache: &mut [u8]) -> Start
     ensures { λ r. ⌜ (r ≡ startAnswer (now (memory .entry)) (now (cache .entry))) × (now (cache .exit) ≡ cacheStarted (now (memory .entry)) (now (cache .entry))) ⌝ }
 {
@@ -56,6 +54,7 @@ pub fn cold_start(memory: &[u8], cache: &mut [u8]) -> Start
     }
 }
 
+// A load. A refused one leaves all as it was.
 pub fn load(
     directory: Directory,
     memory: &mut [u8],
@@ -65,29 +64,15 @@ pub fn load(
 ) -> Answer
     ensures { λ r. ⌜ (r ≡ answer directory (now (memory .entry)) (now (cache .entry)) (Load unit address)) × (now (memory .exit) ≡ memoryAfter directory (now (memory .entry)) (now (cache .entry)) (Load unit address)) × (now (cache .exit) ≡ cacheAfter directory (now (memory .entry)) (now (cache .entry)) (Load unit address)) ⌝ }
 {
-    let orders = no_orders();
     let refusal = refusal_of(directory, memory, cache, unit, is_address(address));
     if refusal == 0 {
-        let done = load_block(State { directory, orders }, memory, cache, unit, address);
-        let value = word_at(cache, cache_place(unit, address));
-        let given = done.orders;
-        let left = done.directory;
-        Answer {
-            refusal: 0,
-            value,
-            orders: given,
-            directory: left,
-        }
+        load_word(directory, memory, cache, unit, address)
     } else {
-        Answer {
-            refusal,
-            value: 0,
-            orders,
-            directory,
-        }
+        refused(refusal, directory)
     }
 }
 
+// A store. A refused one leaves all as it was.
 pub fn store(
     directory: Directory,
     memory: &mut [u8],
@@ -98,57 +83,23 @@ pub fn store(
 ) -> Answer
     ensures { λ r. ⌜ (r ≡ answer directory (now (memory .entry)) (now (cache .entry)) (Store unit address value)) × (now (memory .exit) ≡ memoryAfter directory (now (memory .entry)) (now (cache .entry)) (Store unit address value)) × (now (cache .exit) ≡ cacheAfter directory (now (memory .entry)) (now (cache .entry)) (Store unit address value)) ⌝ }
 {
-    let orders = no_orders();
     let refusal = refusal_of(directory, memory, cache, unit, is_address(address));
     if refusal == 0 {
-        let done = store_word(
-            State { directory, orders },
-            memory,
-            cache,
-            unit,
-            address,
-            value,
-        );
-        let given = done.orders;
-        let left = done.directory;
-        Answer {
-            refusal: 0,
-            value: 0,
-            orders: given,
-            directory: left,
-        }
+        store_word(directory, memory, cache, unit, address, value)
     } else {
-        Answer {
-            refusal,
-            value: 0,
-            orders,
-            directory,
-        }
+        refused(refusal, directory)
     }
 }
 
+// A flush: the block leaves the unit's cache, after a copyback where it is EM. A refused one leaves all as it was.
 pub fn flush(directory: Directory, memory: &mut [u8], cache: &[u8], unit: u8, block: u8) -> Answer
     ensures { λ r. ⌜ (r ≡ answer directory (now (memory .entry)) (now (cache .entry)) (Flush unit block)) × (now (memory .exit) ≡ memoryAfter directory (now (memory .entry)) (now (cache .entry)) (Flush unit block)) × (now (cache .entry) ≡ cacheAfter directory (now (memory .entry)) (now (cache .entry)) (Flush unit block)) ⌝ }
 {
-    let orders = no_orders();
     let refusal = refusal_of(directory, memory, cache, unit, block <= 63);
     if refusal == 0 {
-        let done = flush_block(State { directory, orders }, memory, cache, unit, block);
-        let given = done.orders;
-        let left = done.directory;
-        Answer {
-            refusal: 0,
-            value: 0,
-            orders: given,
-            directory: left,
-        }
+        flush_block(directory, memory, cache, unit, block)
     } else {
-        Answer {
-            refusal,
-            value: 0,
-            orders,
-            directory,
-        }
+        refused(refusal, directory)
     }
 }
 

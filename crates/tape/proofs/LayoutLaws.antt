@@ -4,20 +4,19 @@ use native.Mathlib.Omega.{arith}
 use mathlib.Core.Path.{_≡_, refl, sym, ap, _∙_}
 use mathlib.Core.List.{List, [], _∷_}
 use mathlib.Core.Option.{Option, none, some, Option·elim}
-use mathlib.Core.Bool.{Bool, true, false, cond, _&&_}
-use lib.Dec.{leb, eqb}
+use mathlib.Core.Bool.{Bool, true, false, cond}
+use lib.Dec.{eqb}
 use lib.ListN.{length}
-use borrow.Author.Tests.{eqb-true, leb-true, ne-eqb}
+use borrow.Author.Tests.{eqb-true, ne-eqb}
 use Rattle.order.specs.declared.Command.{Command}
 use Rattle.order.specs.declared.Command.the-variants as command-names
 use Rattle.order.specs.declared.CommandFound.{CommandFound}
 use Rattle.order.specs.declared.CommandFound.the-variants.{Known, Unknown}
 use Rattle.order.specs.Command.{commandNumber, commandOf}
-use Rattle.order.specs.Refusal.{fieldRange, unknownKind}
+use Rattle.order.specs.Refusal.{unknownKind}
 use Rattle.order.proofs.CommandLaws.{command-of-number}
 use Rattle.tape.specs.declared.number.NumberRead.{NumberRead}
 use Rattle.tape.specs.declared.number.NumberRead.the-variants.{Number, Refused}
-use Rattle.tape.specs.declared.field.Rule.{Rule}
 use Rattle.tape.specs.declared.field.Rule.the-variants.{Retried, Flag}
 use Rattle.tape.specs.declared.record.Record.{Record}
 use Rattle.tape.specs.declared.record.Record.the-variants as rec

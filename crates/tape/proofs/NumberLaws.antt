@@ -1,11 +1,9 @@
 -- A number's round trips: reading what was spelled gives the number, and what was read is its spelling.
-use Prim.Native.Nat.{ℕ, zero, suc, _+_, _*_, _/_, _%_, _-_, _≤_, _<_, _^_}
-use native.Mathlib.Numerals.{add-one}
-use native.Mathlib.Nat.{zero-add, suc-add, add-suc, add-assoc, le-refl, le-trans}
+use Prim.Native.Nat.{ℕ, zero, suc, _+_, _*_, _/_, _%_, _-_, _≤_, _<_}
 use native.Mathlib.Omega.{arith}
 use mathlib.Core.Path.{_≡_, refl, sym, ap, ap₂, _∙_}
 use mathlib.Core.Logic.{_⊎_, inl, inr, ⊎-elim}
-use mathlib.Core.List.{List, [], _∷_, _++_}
+use mathlib.Core.List.{List, [], _∷_}
 use mathlib.Core.Bool.{Bool, true, false, cond}
 use lib.ListN.{length, getD}
 use lib.Dec.{ltb, leb}
@@ -13,8 +11,7 @@ use borrow.Author.Tests.{ltb-true, ltb-false, leb-true, leb-false, lt-ltb, le-lt
 use Rattle.tape.specs.Number.{groups, last, limitOf, carried, readGroups, refusing, numberAt, spellGroups, spell, Bytes}
 use Rattle.tape.specs.declared.number.Groups.{Groups}
 use Rattle.tape.specs.declared.number.Groups.the-variants.{Value, Cut, Bad}
-use Rattle.tape.specs.declared.number.NumberRead.{NumberRead}
-use Rattle.tape.specs.declared.number.NumberRead.the-variants.{Number, Refused}
+use Rattle.tape.specs.declared.number.NumberRead.the-variants.{Number}
 use Rattle.tape.proofs.GroupLaws.{top, limit-small}
 
 -- the bytes s stand on the tape from p on

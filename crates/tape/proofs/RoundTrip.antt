@@ -1,27 +1,25 @@
 -- Demand 2 for the tape: reading and writing are inverse. The statements are those of `specs/RoundTrip.antt`.
-use Prim.Native.Nat.{ℕ, zero, suc, _+_, _-_, _≤_, _<_}
+use Prim.Native.Nat.{ℕ, suc, _+_, _-_, _≤_, _<_}
 use native.Mathlib.Numerals.{add-one}
-use native.Mathlib.Nat.{add-zero, zero-add, le-refl}
+use native.Mathlib.Nat.{add-zero, le-refl}
 use native.Mathlib.Omega.{arith}
 use mathlib.Core.Path.{_≡_, refl, sym, ap, ap₂, _∙_}
 use mathlib.Core.List.{List, [], _∷_, _++_, append-assoc}
 use mathlib.Core.Bool.{Bool, true, false, cond}
-use lib.ListN.{length, getD, take, drop, length-append, take-append-drop}
+use lib.ListN.{length, take, drop, length-append, take-append-drop}
 use lib.Seq.{drop-cons, getD-append-seam, append-snoc, take-append-seam, drop-length, drop-drop}
-use lib.Dec.{leb, eqb}
+use lib.Dec.{leb}
 use borrow.Author.Tests.{le-leb, lt-leb, eq-eqb}
 use Rattle.order.specs.Refusal.{fieldRange, noRoom}
 use Rattle.tape.specs.declared.record.Record.{Record}
-use Rattle.tape.specs.declared.record.RecordRead.{RecordRead}
 use Rattle.tape.specs.declared.record.RecordRead.the-variants as read
-use Rattle.tape.specs.declared.number.NumberRead.{NumberRead}
-use Rattle.tape.specs.declared.number.NumberRead.the-variants.{Number, Refused}
+use Rattle.tape.specs.declared.number.NumberRead.the-variants.{Refused}
 use Rattle.tape.specs.declared.write.Written.the-variants as wrote
-use Rattle.tape.specs.Number.{numberAt, spell, spellAll, Bytes}
+use Rattle.tape.specs.Number.{spell, spellAll, Bytes}
 use Rattle.tape.specs.Record.{kindOf, fieldsOf, recordAt}
 use Rattle.tape.specs.Write.{valid, bytesOf, writtenOf, spaceAfter}
 use Rattle.tape.specs.RoundTrip.{ReadsBack, WritesBack, MovesOn, WrittenAs, ReadsAs, TapeReadsBack, TapeWritesBack}
-use Rattle.tape.proofs.NumberLaws.{Stands, limit, number-of-spelled, spelled-of-number, number-moves}
+use Rattle.tape.proofs.NumberLaws.{Stands, number-of-spelled, spelled-of-number, number-moves}
 use Rattle.tape.proofs.LayoutLaws.{Reads, Small, record-taken, record-given, finished-at-end, valid-small}
 
 -- bytes that stand on the tape, cut and joined

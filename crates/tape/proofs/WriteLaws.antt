@@ -1,23 +1,19 @@
 -- Laws of writing: which records are valid, kind by kind, and the answer and the space by what the tests found.
 use Prim.Native.Nat.{ℕ, _≤_, _<_}
 use native.Mathlib.Nat.{zero-add}
-use native.Mathlib.Omega.{arith}
 use mathlib.Core.Path.{_≡_, refl, ap, _∙_}
-use mathlib.Core.List.{List, _∷_, _++_}
+use mathlib.Core.List.{List, _∷_}
 use mathlib.Core.Option.{Option·elim}
-use mathlib.Core.Bool.{Bool, true, false, cond, _&&_}
-use lib.ListN.{length, drop}
+use mathlib.Core.Bool.{Bool, true, false, _&&_}
+use lib.ListN.{length}
 use lib.Seq.{sets, sets-eq}
 use borrow.Author.Tests.{le-leb, lt-leb}
 use Rattle.order.specs.declared.Order.{Order}
-use Rattle.order.specs.declared.CommandFound.the-variants.{Known}
-use Rattle.order.specs.Command.{commandNumber, commandOf}
 use Rattle.order.specs.Refusal.{fieldRange, noRoom}
 use Rattle.order.proofs.CommandLaws.{command-of-number}
 use Rattle.tape.specs.declared.field.Rule.the-variants.{Unit, Address, Word, Block, Retried, From, To, Byte, Flag, Bct}
 use Rattle.tape.specs.declared.record.Record.{Record}
 use Rattle.tape.specs.declared.record.Record.the-variants as rec
-use Rattle.tape.specs.declared.write.Written.{Written}
 use Rattle.tape.specs.declared.write.Written.the-variants as wrote
 use Rattle.tape.specs.Number.{spellAll}
 use Rattle.tape.specs.Field.{allowed}

@@ -48,6 +48,16 @@ refusing at Bad = Refused badNumber at
 unfoldable pub numberAt : List ℕ → ℕ → NumberRead
 numberAt tape at = refusing at (readGroups last groups tape at)
 
+-- what reading answers, in document 01's numbers: the number of refusal, 0 for none; the place after what was read, or that of the refusal; the numbers read
+pub record Told : Type 0 where
+  pub refusal : ℕ
+  pub place : ℕ
+  pub numbers : List ℕ
+
+unfoldable pub numberTold : NumberRead → Told
+numberTold (Number v next) = record { refusal = accepted; place = next; numbers = v ∷ [] }
+numberTold (Refused number place) = record { refusal = number; place = place; numbers = [] }
+
 -- the number, if there is one, is below m
 unfoldable pub Below : ℕ → Groups → Type 0
 Below m (Value v next) = v < m

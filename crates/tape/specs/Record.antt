@@ -18,10 +18,10 @@ use Rattle.tape.specs.declared.record.Record.{Record}
 use Rattle.tape.specs.declared.record.Record.the-variants as rec
 use Rattle.tape.specs.declared.record.RecordRead.{RecordRead}
 use Rattle.tape.specs.declared.record.RecordRead.the-variants as out
-use Rattle.tape.specs.Number.{numberAt}
+use Rattle.tape.specs.Number.{numberAt, Told}
 use Rattle.tape.specs.Field.{allowed, fieldAt}
 
--- the fields of a kind, in order: each with its rule, a command, or no more, which makes the record
+-- a layout, the fields of a kind in order: a number with its rule, or a command, and what follows it; at the end, the record that they make
 pub data Layout : Type 0 where
   field : Rule → (ℕ → Layout) → Layout
   command : (Command → Layout) → Layout
@@ -32,7 +32,7 @@ unfoldable pub flag : Bool → ℕ
 flag false = 0
 flag true = 1
 
--- the table of kinds. RA takes any 32-bit number as a value does; AID and code are 0-255
+-- the table of kinds, a layout for each. RA takes any 32-bit number as a value does; AID and code are 0-255
 unfoldable pub load : Layout
 load = field Unit λ unit. field Address λ address. end (rec.Load unit address)
 
@@ -58,6 +58,7 @@ register =
 unfoldable pub loaded : Layout
 loaded = field Unit λ unit. field Word λ value. end (rec.Loaded unit value)
 
+-- the layout that a kind has; a kind above 6 has none
 unfoldable pub layoutOf : ℕ → Option Layout
 layoutOf kind =
     cond (eqb kind 0) (some load)
@@ -111,11 +112,17 @@ fieldsOf (rec.Answer from to aid code) = from ∷ to ∷ aid ∷ code ∷ []
 fieldsOf (rec.Register from to aid write ra bct) = from ∷ to ∷ aid ∷ flag write ∷ ra ∷ bct ∷ []
 fieldsOf (rec.Loaded unit value) = unit ∷ value ∷ []
 
+-- reading at a place in document 01's numbers: a record's are its kind and fields; "finished" is no refusal, has no numbers, and stays at the place
+unfoldable pub recordTold : ℕ → RecordRead → Told
+recordTold at (out.Record r next) = record { refusal = accepted; place = next; numbers = kindOf r ∷ fieldsOf r }
+recordTold at out.Finished = record { refusal = accepted; place = at; numbers = [] }
+recordTold at (out.Refused number place) = record { refusal = number; place = place; numbers = [] }
+
+-- whether numbers stand in a layout's fields, one for each, and each as its rule allows
 unfoldable pub fitsCommand : CommandFound → (Command → Bool) → Bool
 fitsCommand (Known given) rest = rest given
 fitsCommand Unknown rest = false
 
--- numbers that stand in a layout's fields, each allowed by its rule
 unfoldable pub fits : Layout → List ℕ → Bool
 fits (field rule more) (n ∷ ns) = allowed rule n && fits (more n) ns
 fits (field rule more) [] = false

@@ -6,7 +6,7 @@ use mathlib.Core.Option.{Option·elim}
 use mathlib.Core.Bool.{Bool, false, cond}
 use lib.ListN.{length, take, drop}
 use lib.Dec.{leb}
-use Rattle.order.specs.Refusal.{fieldRange, noRoom}
+use Rattle.order.specs.Refusal.{accepted, fieldRange, noRoom}
 use Rattle.tape.specs.declared.record.Record.{Record}
 use Rattle.tape.specs.declared.write.Written.{Written}
 use Rattle.tape.specs.declared.write.Written.the-variants as wrote
@@ -27,6 +27,15 @@ writtenOf r room =
     cond (valid r)
     (cond (leb (length (bytesOf r)) room) (wrote.Bytes (length (bytesOf r))) (wrote.Refused noRoom))
     (wrote.Refused fieldRange)
+
+-- the same in document 01's numbers: the number of refusal, 0 for none, and how many bytes were written
+unfoldable pub writtenRefusal : Written → ℕ
+writtenRefusal (wrote.Bytes count) = accepted
+writtenRefusal (wrote.Refused number) = number
+
+unfoldable pub writtenCount : Written → ℕ
+writtenCount (wrote.Bytes count) = count
+writtenCount (wrote.Refused number) = 0
 
 -- the space afterwards: "it fills the first bytes of the lent space .. and the rest of the space stays"; refused, all of it stays
 unfoldable pub spaceAfter : Record → List ℕ → List ℕ

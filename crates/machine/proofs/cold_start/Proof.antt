@@ -1,10 +1,8 @@
 -- `machine::cold_start` meets its contract.
 use borrow.Author.Needs.{needs}
-use mathlib.Core.Path.{_≡_, refl, _∙_, ap}
-use mathlib.Core.Bool.{true, false}
+use mathlib.Core.Path.{refl, sym, _∙_, ap}
 use Prim.Native.Nat.{ℕ}
 use lib.ListN.{replicate}
-use Rattle.coherence.specs.Refusal.{sized}
 use Rattle.coherence.specs.Calls.{startAnswer, cacheStarted}
 use Rattle.machine.proofs.Refusals.{start-number, sizes-of}
 use Rattle.machine.proofs.cold_start.Statement.{statement}
@@ -25,11 +23,11 @@ same-length c = search needs
 returns : tie.Need-returns
 unfolding startAnswer cacheStarted
 returns c =
-    let a = c .before .before .before .before .before .before .before .before .before .before .args in
-    let p : sized (a .memory .now) (a .cache .now) ≡ true = cc in
-    let z = sizes-of (a .memory .now) (a .cache .now) p .cache in
-    rw (start-number (a .memory .now) (a .cache .now), p)
-    (cc, c .before .before .clear .ensures ∙ ap (λ (n : ℕ). replicate n 0) z)
+    let m = c .before .before .before .before .before .before .before .before .before .before .args .memory .now in
+    let k = c .before .before .before .before .before .before .before .before .before .before .args .cache .now in
+    let p = sym (c .before .before .before .before .before .is-sized .ensures) ∙ c .before .before .before .before .if1 .taken in
+    let z = sizes-of m k p .cache in
+    rw (start-number m k, p, c .before .before .before .before .before .before .before .cold-directory .ensures) (refl, c .before .before .clear .ensures ∙ ap (λ (n : ℕ). replicate n 0) z)
 
 same-length-2 : tie.Need-same-length-2
 same-length-2 c = search needs
@@ -37,9 +35,8 @@ same-length-2 c = search needs
 returns-2 : tie.Need-returns-2
 unfolding startAnswer cacheStarted
 returns-2 c =
-    let a = c .before .before .before .before .before .before .args in
-    let p : sized (a .memory .now) (a .cache .now) ≡ false = cc in
-    rw (start-number (a .memory .now) (a .cache .now), p) (cc, refl)
+    let p = sym (c .before .is-sized .ensures) ∙ c .if1 .left in
+    rw (start-number _ _, p, c .before .before .before .cold-directory .ensures) (refl, refl)
 
 pub cold-start-spec : {M : Type 1} → statement M
 cold-start-spec =

@@ -1,28 +1,12 @@
 -- `machine::load` meets its contract.
 use borrow.Author.Needs.{needs}
-use mathlib.Core.Path.{_≡_}
-use Prim.Native.Nat.{_≤_, _%_}
-use native.Mathlib.Omega.{arith}
-use Rattle.coherence.specs.declared.Call.the-variants.{Load}
-use Rattle.coherence.specs.Refusal.{isAddress, callRefusal}
-use Rattle.coherence.specs.Calls.{unitOf, isTarget, refusal, act, loaded}
-use Rattle.machine.proofs.Refusals.{Known, known, address-of}
 use Rattle.machine.proofs.Calls.{accepts, refuses}
+use Rattle.machine.proofs.Refusals.{known, address-of}
+use Rattle.coherence.specs.Calls.{unitOf, isTarget, refusal}
+use Rattle.coherence.specs.declared.Call.the-variants.{Load}
+use mathlib.Core.Path.{sym, _∙_}
 use Rattle.machine.proofs.load.Statement.{statement}
 use Rattle.machine.proofs.load.Tie as tie
-
--- no test fails
-accepted : (c : tie.Then1) → let a = c .before .before .before .before .before .before .before .before .args in callRefusal (a .directory) (a .memory .now) (a .cache .now) (a .unit) (isAddress (a .address)) ≡ 0
-accepted c = cc
-
-facts : (c : tie.Then1) → let a = c .before .before .before .before .before .before .before .before .args in Known (a .directory) (a .memory .now) (a .cache .now) (a .unit) (isAddress (a .address))
-facts c = let a = c .before .before .before .before .before .before .before .before .args in known (a .directory) (a .memory .now) (a .cache .now) (a .unit) _ (accepted c)
-
-at : (c : tie.Then1) → let a = c .before .before .before .before .before .before .before .before .args .address in (a % 4 ≡ 0) × (a ≤ 2044)
-at c = address-of (c .before .before .before .before .before .before .before .before .args .address) (facts c .target)
-
-no-orders-requires : tie.Need-no-orders-requires
-no-orders-requires c κs = search needs
 
 is-address-requires : tie.Need-is-address-requires
 is-address-requires c κs = search needs
@@ -30,14 +14,15 @@ is-address-requires c κs = search needs
 refusal-of-requires : tie.Need-refusal-of-requires
 refusal-of-requires c κs = search needs
 
-load-block-requires : tie.Need-load-block-requires
-load-block-requires c κs = let h = facts (c .before .before) in let a = at (c .before .before) in (h .unit, omega arith, h .block _, h .sizes)
+load-word-requires : tie.Need-load-word-requires
+load-word-requires c κs =
+    let e = rw (c .before .before .before .before .is-address .ensures) at (c .before .before .before .refusal-of .ensures) in
+    let h = known _ _ _ _ _ (sym e ∙ c .before .before .if1 .taken) in
+    let t = address-of _ (h .target) in
+    (h .unit, t .1, t .0, h .block _, h .sizes)
 
-cache-place-requires : tie.Need-cache-place-requires
-cache-place-requires c κs = let h = facts (c .before .before .before .before .before .before .before .before) in let a = at (c .before .before .before .before .before .before .before .before) in (h .unit, a .1, a .0)
-
-word-at-requires : tie.Need-word-at-requires
-word-at-requires c κs = omega (arith, facts (c .before .before .before .before .before .before .before .before .before) .sizes, c .cache-place .ensures, c .before .before .before .before .before .before .load-block .kept)
+refused-requires : tie.Need-refused-requires
+refused-requires c κs = search needs
 
 same-length : tie.Need-same-length
 same-length c = search needs
@@ -46,10 +31,11 @@ same-length-2 : tie.Need-same-length-2
 same-length-2 c = search needs
 
 returns : tie.Need-returns
-unfolding refusal unitOf isTarget act loaded
+unfolding refusal unitOf isTarget
 returns c =
-    let a = c .before .before .before .before .before .before .before .before .before .before .before .before .before .before .before .before .before .before .before .before .args in
-    accepts (Load (a .unit) (a .address)) (accepted (c .before .before .before .before .before .before .before .before .before .before .before .before)) (c .before .before .before .before .before .before .before .before .before .before .before .before .before .before .before .before .before .no-orders .ensures) (c .before .before .before .before .before .before .before .before .before .load-block .ensures) (λ w e. cc)
+    let a = c .before .before .before .before .before .before .before .before .before .before .before .before .before .before .args in
+    let e = rw (c .before .before .before .before .before .before .before .before .before .is-address .ensures) at (c .before .before .before .before .before .before .before .before .refusal-of .ensures) in
+    accepts _ _ _ (Load (a .unit) (a .address)) (sym e ∙ c .before .before .before .before .before .before .before .if1 .taken) (c .before .before .before .before .load-word .ensures)
 
 same-length-3 : tie.Need-same-length-3
 same-length-3 c = search needs
@@ -61,18 +47,17 @@ returns-2 : tie.Need-returns-2
 unfolding refusal unitOf isTarget
 returns-2 c =
     let a = c .before .before .before .before .before .before .before .before .args in
-    refuses (Load (a .unit) (a .address)) (cc) (c .if1 .left) (c .before .before .before .before .before .no-orders .ensures)
+    let e = rw (c .before .before .before .is-address .ensures) at (c .before .before .refusal-of .ensures) in
+    refuses _ _ _ (Load (a .unit) (a .address)) e (c .before .if1 .left) (c .refused .ensures)
 
 pub load-spec : {M : Type 1} → statement M
 load-spec =
     tie.close
     (tie.spec
-    no-orders-requires
     is-address-requires
     refusal-of-requires
-    load-block-requires
-    cache-place-requires
-    word-at-requires
+    load-word-requires
+    refused-requires
     same-length
     same-length-2
     returns

@@ -1,9 +1,8 @@
 -- `machine::peek` meets its contract.
 use borrow.Author.Needs.{needs}
-use mathlib.Core.Path.{_≡_, _∙_, sym}
-use mathlib.Core.Bool.{true, false}
+use mathlib.Core.Path.{sym}
+use mathlib.Core.Path.{_≡_, _∙_}
 use native.Mathlib.Omega.{arith}
-use lib.Dec.{ltb, eqb}
 use borrow.Author.Tests.{eq-eqb, ne-eqb, lt-ltb, le-ltb}
 use Rattle.coherence.specs.Peek.{peeked, peekFromCache, peekOffset, newest, newestBlock, fromCache}
 use Rattle.coherence.specs.Refusal.{peekRefusal}
@@ -41,31 +40,26 @@ place-of-requires c κs = search needs
 
 block-of-requires : tie.Need-block-of-requires
 block-of-requires c κs =
-    let a = c .before .before .before .before .before .before .before .args in
-    let r : peekRefusal (a .directory) (a .memory .now) (a .cache .now) (a .block) ≡ 0 = cc in
-    omega (arith, peek-known (a .directory) (a .memory .now) (a .cache .now) (a .block) r, c .place-of)
+    let k = peek-known _ _ _ _ (sym (c .before .before .before .before .peek-refusal .ensures) ∙ c .before .before .before .if1 .left) in
+    omega (arith, c .place-of .ensures .1)
 
 block-of-requires-2 : tie.Need-block-of-requires-2
 block-of-requires-2 c κs =
-    let a = c .before .before .before .before .before .before .args in
-    let r : peekRefusal (a .directory) (a .memory .now) (a .cache .now) (a .block) ≡ 0 = cc in
-    omega (arith, peek-known (a .directory) (a .memory .now) (a .cache .now) (a .block) r)
+    let k = peek-known _ _ _ _ (sym (c .before .before .before .peek-refusal .ensures) ∙ c .before .before .if1 .left) in
+    omega arith
 
 returns-2 : tie.Need-returns-2
 unfolding peeked peekFromCache peekOffset newest newestBlock fromCache
 returns-2 c =
-    let a = c .before .before .before .before .before .before .before .before .args in
-    let r : peekRefusal (a .directory) (a .memory .now) (a .cache .now) (a .block) ≡ 0 = cc in
-    let h : ownerOf (a .directory) (a .block) < 4 = omega arith in
-    rw (eq-eqb _ _ r, lt-ltb _ _ h) (cc, cc, cc)
+    let o = c .before .before .before .owner .ensures in
+    let h = rw o at (c .before .before .if2 .taken) in
+    rw (eq-eqb _ _ (sym (c .before .before .before .before .before .peek-refusal .ensures) ∙ c .before .before .before .before .if1 .left), lt-ltb _ _ h) (rw (c .before .place-of .ensures .0, o) at (c .block-of .ensures))
 
 returns-3 : tie.Need-returns-3
 unfolding peeked peekFromCache peekOffset newest newestBlock fromCache
 returns-3 c =
-    let a = c .before .before .before .before .before .before .before .args in
-    let r : peekRefusal (a .directory) (a .memory .now) (a .cache .now) (a .block) ≡ 0 = cc in
-    let h : 4 ≤ ownerOf (a .directory) (a .block) = omega arith in
-    rw (eq-eqb _ _ r, le-ltb _ _ h) (cc, cc, cc)
+    let h = rw (c .before .before .owner .ensures) at (c .before .if2 .left) in
+    rw (eq-eqb _ _ (sym (c .before .before .before .before .peek-refusal .ensures) ∙ c .before .before .before .if1 .left), le-ltb _ _ h) (c .block-of2 .ensures)
 
 pub peek-spec : {M : Type 1} → statement M
 peek-spec =

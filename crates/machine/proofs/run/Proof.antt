@@ -28,7 +28,7 @@ same-length-2 : tie.Need-same-length-2
 same-length-2 c = search needs
 
 returns : tie.Need-returns
-returns c = (cc, cc, cc)
+returns c = rw (c .before .before .before .before .before .before .before .before .call .given .1) (c .before .before .before .before .load .ensures)
 
 same-length-3 : tie.Need-same-length-3
 same-length-3 c = search needs
@@ -37,7 +37,7 @@ same-length-4 : tie.Need-same-length-4
 same-length-4 c = search needs
 
 returns-2 : tie.Need-returns-2
-returns-2 c = (cc, cc, cc)
+returns-2 c = rw (c .before .before .before .before .before .before .before .before .call2 .given .1) (c .before .before .before .before .store .ensures)
 
 same-length-5 : tie.Need-same-length-5
 same-length-5 c = search needs
@@ -46,7 +46,7 @@ same-length-6 : tie.Need-same-length-6
 same-length-6 c = search needs
 
 returns-3 : tie.Need-returns-3
-returns-3 c = (cc, cc, cc)
+returns-3 c = rw (c .before .before .before .before .before .before .call3 .given .1) (c .before .before .flush .ensures)
 
 pub run-spec : {M : Type 1} → statement M
 run-spec =

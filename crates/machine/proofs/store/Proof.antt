@@ -1,22 +1,12 @@
 -- `machine::store` meets its contract.
 use borrow.Author.Needs.{needs}
-use mathlib.Core.Path.{_≡_, refl}
-use Prim.Native.Nat.{_≤_, _%_}
-use native.Mathlib.Omega.{arith}
-use Rattle.coherence.specs.declared.Call.the-variants.{Store}
-use Rattle.coherence.specs.Refusal.{isAddress, callRefusal}
-use Rattle.coherence.specs.Calls.{unitOf, isTarget, refusal, act, loaded}
-use Rattle.machine.proofs.Refusals.{Known, known, address-of}
 use Rattle.machine.proofs.Calls.{accepts, refuses}
+use Rattle.machine.proofs.Refusals.{known, address-of}
+use Rattle.coherence.specs.Calls.{unitOf, isTarget, refusal}
+use Rattle.coherence.specs.declared.Call.the-variants.{Store}
+use mathlib.Core.Path.{sym, _∙_}
 use Rattle.machine.proofs.store.Statement.{statement}
 use Rattle.machine.proofs.store.Tie as tie
-
--- no test fails
-accepted : (c : tie.Then1) → let a = c .before .before .before .before .before .before .before .before .args in callRefusal (a .directory) (a .memory .now) (a .cache .now) (a .unit) (isAddress (a .address)) ≡ 0
-accepted c = cc
-
-no-orders-requires : tie.Need-no-orders-requires
-no-orders-requires c κs = search needs
 
 is-address-requires : tie.Need-is-address-requires
 is-address-requires c κs = search needs
@@ -26,10 +16,13 @@ refusal-of-requires c κs = search needs
 
 store-word-requires : tie.Need-store-word-requires
 store-word-requires c κs =
-    let a = c .before .before .before .before .before .before .before .before .before .before .args in
-    let h = known (a .directory) (a .memory .now) (a .cache .now) (a .unit) _ (accepted (c .before .before)) in
-    let t = address-of (a .address) (h .target) in
+    let e = rw (c .before .before .before .before .is-address .ensures) at (c .before .before .before .refusal-of .ensures) in
+    let h = known _ _ _ _ _ (sym e ∙ c .before .before .if1 .taken) in
+    let t = address-of _ (h .target) in
     (h .unit, t .1, t .0, h .block _, h .sizes)
+
+refused-requires : tie.Need-refused-requires
+refused-requires c κs = search needs
 
 same-length : tie.Need-same-length
 same-length c = search needs
@@ -38,10 +31,11 @@ same-length-2 : tie.Need-same-length-2
 same-length-2 c = search needs
 
 returns : tie.Need-returns
-unfolding refusal unitOf isTarget act loaded
+unfolding refusal unitOf isTarget
 returns c =
-    let a = c .before .before .before .before .before .before .before .before .before .before .before .before .before .before .before .before .before .args in
-    accepts (Store (a .unit) (a .address) (a .value)) (accepted (c .before .before .before .before .before .before .before .before .before)) (c .before .before .before .before .before .before .before .before .before .before .before .before .before .before .no-orders .ensures) (c .before .before .before .before .before .before .store-word .ensures) (λ w e. refl)
+    let a = c .before .before .before .before .before .before .before .before .before .before .before .before .before .before .args in
+    let e = rw (c .before .before .before .before .before .before .before .before .before .is-address .ensures) at (c .before .before .before .before .before .before .before .before .refusal-of .ensures) in
+    accepts _ _ _ (Store (a .unit) (a .address) (a .value)) (sym e ∙ c .before .before .before .before .before .before .before .if1 .taken) (c .before .before .before .before .store-word .ensures)
 
 same-length-3 : tie.Need-same-length-3
 same-length-3 c = search needs
@@ -53,16 +47,17 @@ returns-2 : tie.Need-returns-2
 unfolding refusal unitOf isTarget
 returns-2 c =
     let a = c .before .before .before .before .before .before .before .before .args in
-    refuses (Store (a .unit) (a .address) (a .value)) (cc) (c .if1 .left) (c .before .before .before .before .before .no-orders .ensures)
+    let e = rw (c .before .before .before .is-address .ensures) at (c .before .before .refusal-of .ensures) in
+    refuses _ _ _ (Store (a .unit) (a .address) (a .value)) e (c .before .if1 .left) (c .refused .ensures)
 
 pub store-spec : {M : Type 1} → statement M
 store-spec =
     tie.close
     (tie.spec
-    no-orders-requires
     is-address-requires
     refusal-of-requires
     store-word-requires
+    refused-requires
     same-length
     same-length-2
     returns

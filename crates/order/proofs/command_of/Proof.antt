@@ -1,11 +1,8 @@
 -- `order::command_of` meets its contract.
-use borrow.Author.Needs.{needs}
 use borrow.Author.Tests.{ne-eqb}
 use Rattle.order.specs.Command.{commandOf}
 use Rattle.order.proofs.command_of.Statement.{statement}
 use Rattle.order.proofs.command_of.Tie as tie
-use Rattle.order.proofs.command_of.Reads as reads
-use Rattle.order.proofs.command_of.Lts as lts
 
 returns : tie.Need-returns
 unfolding commandOf

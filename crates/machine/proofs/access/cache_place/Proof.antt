@@ -1,7 +1,6 @@
 -- `machine::access::cache_place` meets its contract.
 use borrow.Author.Needs.{needs}
 use native.Mathlib.Omega.{arith}
-use mathlib.Core.Path.{_≡_, ap}
 use Rattle.coherence.specs.Access.{cachePlace}
 use Rattle.machine.proofs.access.cache_place.Statement.{statement}
 use Rattle.machine.proofs.access.cache_place.Tie as tie
@@ -23,7 +22,7 @@ add-result c = search needs
 
 returns : tie.Need-returns
 unfolding cachePlace
-returns c = (cc, omega arith)
+returns c = (rw (c .place-of .ensures .0), omega arith)
 
 pub cache-place-spec : {M : Type 1} → statement M
 cache-place-spec =

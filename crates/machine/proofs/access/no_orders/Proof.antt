@@ -1,12 +1,15 @@
 -- `machine::access::no_orders` meets its contract.
-use mathlib.Core.Path.{refl}
+use borrow.Author.Needs.{needs}
 use Rattle.coherence.specs.Calls.{packed}
 use Rattle.machine.proofs.access.no_orders.Statement.{statement}
 use Rattle.machine.proofs.access.no_orders.Tie as tie
 
+no-order-requires : tie.Need-no-order-requires
+no-order-requires c κs = search needs
+
 returns : tie.Need-returns
 unfolding packed
-returns c = refl
+returns c = rw (c .no-order .ensures)
 
 pub no-orders-spec : {M : Type 1} → statement M
-no-orders-spec = tie.close (tie.spec returns)
+no-orders-spec = tie.close (tie.spec no-order-requires returns)

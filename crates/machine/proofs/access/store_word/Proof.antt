@@ -1,38 +1,146 @@
 -- `machine::access::store_word` meets its contract.
 use borrow.Author.Needs.{needs}
-use Rattle.machine.proofs.Actions.{stores}
+use Rattle.machine.proofs.Accesses.{store-owned, store-shared, store-missed}
+use Rattle.coherence.specs.declared.Call.the-variants.{Store}
+use native.Mathlib.Omega.{arith}
+use Rattle.machine.proofs.Calls.{comes-to}
+use Rattle.coherence.specs.Calls.{act, loaded}
+use mathlib.Core.Path.{refl, sym, _∙_}
 use Rattle.machine.proofs.access.store_word.Statement.{statement}
 use Rattle.machine.proofs.access.store_word.Tie as tie
 
 cast-block : tie.Need-cast-block
 cast-block c = search needs
 
-own-block-requires : tie.Need-own-block-requires
-own-block-requires c κs = search needs
+place-of-requires : tie.Need-place-of-requires
+place-of-requires c κs = search needs
+
+slot-at-requires : tie.Need-slot-at-requires
+slot-at-requires c κs = search needs
 
 cache-place-requires : tie.Need-cache-place-requires
 cache-place-requires c κs = search needs
 
+has-modified-requires : tie.Need-has-modified-requires
+has-modified-requires c κs = search needs
+
 put-word-requires : tie.Need-put-word-requires
 put-word-requires c κs = search needs
+
+no-orders-requires : tie.Need-no-orders-requires
+no-orders-requires c κs = search needs
+
+accepted-requires : tie.Need-accepted-requires
+accepted-requires c κs = search needs
 
 same-length : tie.Need-same-length
 same-length c = search needs
 
+returns : tie.Need-returns
+unfolding act loaded
+returns c =
+    let n = c .before .before .before .before .before .before .before .before .before .before .place-of .ensures .0 in
+    let s = rw n at (c .before .before .before .before .before .before .before .before .before .slot-at .ensures) in
+    let z = sym (rw s at (c .before .before .before .before .before .before .before .has-modified .ensures)) ∙ c .before .before .before .before .before .before .if1 .taken in
+    comes-to (Store _ _ _) (store-owned _ _ _ _ _ _ z) (c .accepted .ensures) refl (c .before .no-orders .ensures) refl refl (rw (c .before .before .before .before .before .before .before .before .cache-place .ensures .0) at (c .before .before .before .before .put-word .ensures))
+
+holds-block-requires : tie.Need-holds-block-requires
+holds-block-requires c κs = search needs
+
+put-word-requires-2 : tie.Need-put-word-requires-2
+put-word-requires-2 c κs = search needs
+
+one-order-requires : tie.Need-one-order-requires
+one-order-requires c κs = search needs
+
+claimed-requires : tie.Need-claimed-requires
+claimed-requires c κs = search needs
+
+accepted-requires-2 : tie.Need-accepted-requires-2
+accepted-requires-2 c κs = search needs
+
+owner-requires : tie.Need-owner-requires
+owner-requires c κs = search needs
+
+fetch-bytes-requires : tie.Need-fetch-bytes-requires
+fetch-bytes-requires c κs =
+    (search needs, omega arith, rw (c .before .before .before .before .before .before .before .before .slot-at .ensures, c .before .before .before .before .before .before .before .before .before .place-of .ensures .0) (c .before .before .before .before .before .before .before .before .before .before .before .before .pre .3), c .before .before .before .before .before .before .before .before .before .before .before .before .pre .4)
+
+put-word-requires-3 : tie.Need-put-word-requires-3
+put-word-requires-3 c κs = search needs
+
+fetch-orders-requires : tie.Need-fetch-orders-requires
+fetch-orders-requires c κs = search needs
+
+fetched-requires : tie.Need-fetched-requires
+fetched-requires c κs = search needs
+
+claimed-requires-2 : tie.Need-claimed-requires-2
+claimed-requires-2 c κs = c .before .before .before .before .before .before .before .before .before .before .before .before .before .before .before .before .before .before .before .before .before .before .before .pre .0
+
+accepted-requires-3 : tie.Need-accepted-requires-3
+accepted-requires-3 c κs = search needs
+
 same-length-2 : tie.Need-same-length-2
 same-length-2 c = search needs
 
-returns : tie.Need-returns
-returns c = stores _ _ _ (c .before .before .before .before .before .before .before .before .before .own-block .ensures) (rw (c .before .before .before .before .cache-place .ensures .0) at (c .before .before .put-word .ensures))
+returns-2 : tie.Need-returns-2
+unfolding act loaded
+returns-2 c =
+    let n = c .before .before .before .before .before .before .before .before .before .before .before .before .before .place-of .ensures .0 in
+    let s = rw n at (c .before .before .before .before .before .before .before .before .before .before .before .before .slot-at .ensures) in
+    let y = sym (rw s at (c .before .before .before .before .before .before .before .before .before .before .has-modified .ensures)) ∙ c .before .before .before .before .before .before .before .before .before .if1 .left in
+    let z = sym (rw s at (c .before .before .before .before .before .before .before .before .holds-block .ensures)) ∙ c .before .before .before .before .before .before .before .if2 .taken in
+    comes-to (Store _ _ _) (store-shared _ _ _ _ _ _ y z) (c .accepted2 .ensures) refl (c .before .before .one-order .ensures) (c .before .claimed .ensures) refl
+    (rw (c .before .before .before .before .before .before .before .before .before .before .before .cache-place .ensures .0) at (c .before .before .before .before .before .put-word2 .ensures))
+
+same-length-3 : tie.Need-same-length-3
+same-length-3 c = search needs
+
+same-length-4 : tie.Need-same-length-4
+same-length-4 c = search needs
+
+returns-3 : tie.Need-returns-3
+unfolding act loaded
+returns-3 c =
+    let n = c .before .before .before .before .before .before .before .before .before .before .before .before .before .before .before .before .before .before .before .before .before .before .place-of .ensures .0 in
+    let s = rw n at (c .before .before .before .before .before .before .before .before .before .before .before .before .before .before .before .before .before .before .before .before .before .slot-at .ensures) in
+    let y = sym (rw s at (c .before .before .before .before .before .before .before .before .before .before .before .before .before .before .before .before .before .before .before .has-modified .ensures)) ∙ c .before .before .before .before .before .before .before .before .before .before .before .before .before .before .before .before .before .before .if1 .left in
+    let z = sym (rw s at (c .before .before .before .before .before .before .before .before .before .before .before .before .before .before .before .before .before .holds-block .ensures)) ∙ c .before .before .before .before .before .before .before .before .before .before .before .before .before .before .before .before .if2 .left in
+    let v = c .before .before .before .before .before .before .before .before .before .before .before .before .before .before .before .owner .ensures in
+    let f = rw (s, n, v) at (c .before .before .before .before .before .before .before .before .before .before .before .before .fetch-bytes .ensures) in
+    let d = rw (n, v) at (c .before .before .fetched .ensures) in
+    comes-to (Store _ _ _) (store-missed _ _ _ _ _ _ y z) (c .accepted3 .ensures) refl (rw (s, v) at (c .before .before .before .fetch-orders .ensures)) (rw d at (c .before .claimed2 .ensures)) (f .0)
+    (rw (f .1, c .before .before .before .before .before .before .before .before .before .before .before .before .before .before .before .before .before .before .before .before .cache-place .ensures .0) at (c .before .before .before .before .before .before .put-word3 .ensures))
 
 pub store-word-spec : {M : Type 1} → statement M
 store-word-spec =
     tie.close
     (tie.spec
     cast-block
-    own-block-requires
+    place-of-requires
+    slot-at-requires
     cache-place-requires
+    has-modified-requires
     put-word-requires
+    no-orders-requires
+    accepted-requires
     same-length
+    returns
+    holds-block-requires
+    put-word-requires-2
+    one-order-requires
+    claimed-requires
+    accepted-requires-2
+    owner-requires
+    fetch-bytes-requires
+    put-word-requires-3
+    fetch-orders-requires
+    fetched-requires
+    claimed-requires-2
+    accepted-requires-3
     same-length-2
-    returns)
+    returns-2
+    same-length-3
+    same-length-4
+    returns-3)

@@ -6,9 +6,6 @@ use native.Mathlib.Omega.{arith}
 use lib.ListN.{length, replicate, drop, length-set, drop-of-length-le}
 use borrow.Author.Needs.{needs}
 use borrow.Author.Fill.{fill-none, fill-more}
-use mathlib.Core.Path.{_∙_, ap}
-use Prim.Native.Nat.{ℕ}
-use mathlib.Core.List.{List, []}
 use Rattle.machine.proofs.block.clear.Statement.{statement}
 use Rattle.machine.proofs.block.clear.Tie as tie
 

@@ -1,12 +1,12 @@
 -- `machine::block::take_block` meets its contract.
 use borrow.Author.Needs.{needs}
 use Prim.Native.Nat.{_≤_, _-_, _*_}
-use mathlib.Core.Path.{_≡_, _∙_, sym, ap}
+use mathlib.Core.Path.{_≡_, _∙_, ap}
 use native.Mathlib.Omega.{arith}
 use Rattle.coherence.specs.Bytes.{blockAt}
 use Rattle.machine.proofs.Copies.{fresh-step, copied-all}
-use Prim.Native.Nat.{ℕ, _+_}
-use lib.ListN.{length, drop, replicate, length-set, length-replicate}
+use Prim.Native.Nat.{ℕ}
+use lib.ListN.{length, drop, replicate, length-set}
 use lib.Seq.{paste, paste-zero}
 use Rattle.machine.proofs.block.take_block.Statement.{statement}
 use Rattle.machine.proofs.block.take_block.Tie as tie

@@ -21,15 +21,15 @@ cast-result-2 c = search needs
 
 returns : tie.Need-returns
 unfolding blockOr
-returns c = cc
+returns c = rw (c .enum-told .given .1)
 
 returns-2 : tie.Need-returns-2
 unfolding blockOr
-returns-2 c = cc
+returns-2 c = rw (c .before .slot .given .1)
 
 returns-3 : tie.Need-returns-3
 unfolding blockOr
-returns-3 c = cc
+returns-3 c = rw (c .before .slot2 .given .1)
 
 pub block-or-spec : {M : Type 1} → statement M
 block-or-spec =

@@ -15,15 +15,15 @@ enum-known-slot c = search needs
 
 returns : tie.Need-returns
 unfolding modified
-returns c = search needs
+returns c = rw (c .enum-told .given .1)
 
 returns-2 : tie.Need-returns-2
 unfolding modified
-returns-2 c = search needs
+returns-2 c = rw (c .enum-told2 .given .1)
 
 returns-3 : tie.Need-returns-3
 unfolding modified
-returns-3 c = cc
+returns-3 c = rw (c .before .slot .given .1)
 
 pub has-modified-spec : {M : Type 1} → statement M
 has-modified-spec =

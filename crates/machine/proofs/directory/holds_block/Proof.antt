@@ -15,15 +15,15 @@ enum-known-slot-2 c = search needs
 
 returns : tie.Need-returns
 unfolding holds
-returns c = cc
+returns c = rw (c .enum-told .given .1)
 
 returns-2 : tie.Need-returns-2
 unfolding holds
-returns-2 c = cc
+returns-2 c = rw (c .before .slot .given .1)
 
 returns-3 : tie.Need-returns-3
 unfolding holds
-returns-3 c = cc
+returns-3 c = rw (c .before .slot2 .given .1)
 
 pub holds-block-spec : {M : Type 1} → statement M
 holds-block-spec =

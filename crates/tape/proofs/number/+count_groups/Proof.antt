@@ -1,12 +1,10 @@
 -- `tape::number::count_groups` meets its contract. The measure is how many groups are left.
-use Prim.Native.Nat.{ℕ, _<_, _≤_, _-_, _%_, _/_, _+_}
-use mathlib.Core.Path.{_≡_, sym, ap, _∙_}
-use mathlib.Core.List.{[], _∷_}
+use Prim.Native.Nat.{ℕ, _<_, _≤_, _-_, _+_}
+use mathlib.Core.Path.{sym, ap}
+use mathlib.Core.List.{[]}
 use native.Mathlib.Numerals.{add-one}
 use native.Mathlib.Omega.{arith}
-use lib.ListN.{length, length-set}
-use lib.Seq.{sets}
-use Rattle.tape.specs.Number.{spellGroups}
+use lib.ListN.{length}
 use Rattle.tape.proofs.SpellLaws.{spell-none, spell-ends, spell-goes-on, spell-length}
 use borrow.Author.Needs.{needs}
 use borrow.Fn.Kinds.{In}

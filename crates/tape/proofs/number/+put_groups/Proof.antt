@@ -1,13 +1,12 @@
 -- `tape::number::put_groups` meets its contract. The measure is how many groups are left.
-use Prim.Native.Nat.{ℕ, _<_, _≤_, _-_, _%_, _/_, _+_}
-use mathlib.Core.Path.{_≡_, refl, sym, ap, _∙_}
+use Prim.Native.Nat.{ℕ, _<_, _-_, _%_, _/_, _+_}
+use mathlib.Core.Path.{_≡_, refl, ap, _∙_}
 use mathlib.Core.List.{[], _∷_}
 use native.Mathlib.Numerals.{add-one}
 use native.Mathlib.Omega.{arith}
 use lib.ListN.{length, length-set}
-use lib.Seq.{sets}
 use Rattle.tape.specs.Number.{spellGroups}
-use Rattle.tape.proofs.SpellLaws.{spell-none, spell-ends, spell-goes-on, spell-length}
+use Rattle.tape.proofs.SpellLaws.{spell-none, spell-ends, spell-goes-on}
 use borrow.Author.Needs.{needs}
 use borrow.Fn.Kinds.{In}
 use borrow.Fn.PlainCycle.{Measures, is, falls, and}

@@ -40,7 +40,8 @@ returns-2 : tie.Need-returns-2
 unfolding load
 returns-2 c =
     let c1 = c .before .before .before .before in
-    on _ _ _ _ (c1 .before .before .before .field .ensures) (c1 .before .unit .given .1) (stop _ _ _ _ (c .before .before .before .field2 .ensures) (c .before .enum-told2 .given .1) (c .refused2 .ensures))
+    on _ _ _ _ (c1 .before .before .before .field .ensures) (c1 .before .unit .given .1)
+    (stop _ _ _ _ (c .before .before .before .field2 .ensures) (c .before .enum-told2 .given .1) (c .refused2 .ensures))
 
 cast-t10 : tie.Need-cast-t10
 cast-t10 c = let d = c .before .before .before .before in omega (arith, most _ _ _ (d .before .before .before .field .ensures) (d .before .unit .given .1))
@@ -52,7 +53,8 @@ returns-3 : tie.Need-returns-3
 unfolding load
 returns-3 c =
     let c1 = c .before .before .before .before in
-    on _ _ _ _ (c1 .before .before .before .field .ensures) (c1 .before .unit .given .1) (on _ _ _ _ (c .before .before .before .field2 .ensures) (c .before .address .given .1) (made _ _ _))
+    on _ _ _ _ (c1 .before .before .before .field .ensures) (c1 .before .unit .given .1)
+    (on _ _ _ _ (c .before .before .before .field2 .ensures) (c .before .address .given .1) (made _ _ _))
 
 pub read-load-spec : {M : Type 1} → statement M
 read-load-spec =

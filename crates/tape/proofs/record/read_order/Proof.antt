@@ -40,7 +40,8 @@ returns-2 : tie.Need-returns-2
 unfolding order
 returns-2 c =
     let c1 = c .before .before .before .before in
-    on _ _ _ _ (c1 .before .before .before .field .ensures) (c1 .before .unit .given .1) (stop-command _ _ _ (c .before .before .before .read-number .ensures) (c .before .enum-told2 .given .1) (c .refused2 .ensures))
+    on _ _ _ _ (c1 .before .before .before .field .ensures) (c1 .before .unit .given .1)
+    (stop-command _ _ _ (c .before .before .before .read-number .ensures) (c .before .enum-told2 .given .1) (c .refused2 .ensures))
 
 command-of-requires : tie.Need-command-of-requires
 command-of-requires c κs = search needs
@@ -57,7 +58,8 @@ returns-3 c =
     let c3 = c .before .before in
     let c2 = c3 .before in
     let c1 = c2 .before .before .before .before in
-    on _ _ _ _ (c1 .before .before .before .field .ensures) (c1 .before .unit .given .1) (no-command _ _ _ (c2 .before .before .before .read-number .ensures) (c2 .before .number .given .1) (c3 .command-of .ensures) (c .enum-told3 .given .1))
+    on _ _ _ _ (c1 .before .before .before .field .ensures) (c1 .before .unit .given .1)
+    (no-command _ _ _ (c2 .before .before .before .read-number .ensures) (c2 .before .number .given .1) (c3 .command-of .ensures) (c .enum-told3 .given .1))
 
 field-requires-2 : tie.Need-field-requires-2
 field-requires-2 c κs = search needs
@@ -78,7 +80,9 @@ returns-4 c =
     let c3 = c4 .before .before in
     let c2 = c3 .before in
     let c1 = c2 .before .before .before .before in
-    on _ _ _ _ (c1 .before .before .before .field .ensures) (c1 .before .unit .given .1) (on-command _ _ _ (c2 .before .before .before .read-number .ensures) (c2 .before .number .given .1) (c3 .command-of .ensures) (c4 .found .given .1) (stop _ _ _ _ (c .before .before .before .field2 .ensures) (c .before .enum-told4 .given .1) (c .refused3 .ensures)))
+    on _ _ _ _ (c1 .before .before .before .field .ensures) (c1 .before .unit .given .1)
+    (on-command _ _ _ (c2 .before .before .before .read-number .ensures) (c2 .before .number .given .1) (c3 .command-of .ensures) (c4 .found .given .1)
+    (stop _ _ _ _ (c .before .before .before .field2 .ensures) (c .before .enum-told4 .given .1) (c .refused3 .ensures)))
 
 field-requires-3 : tie.Need-field-requires-3
 field-requires-3 c κs = search needs
@@ -100,7 +104,10 @@ returns-5 c =
     let c3 = c4 .before .before in
     let c2 = c3 .before in
     let c1 = c2 .before .before .before .before in
-    on _ _ _ _ (c1 .before .before .before .field .ensures) (c1 .before .unit .given .1) (on-command _ _ _ (c2 .before .before .before .read-number .ensures) (c2 .before .number .given .1) (c3 .command-of .ensures) (c4 .found .given .1) (on _ _ _ _ (c5 .before .before .before .field2 .ensures) (c5 .before .block .given .1) (stop _ _ _ _ (c .before .before .before .field3 .ensures) (c .before .enum-told5 .given .1) (c .refused4 .ensures))))
+    on _ _ _ _ (c1 .before .before .before .field .ensures) (c1 .before .unit .given .1)
+    (on-command _ _ _ (c2 .before .before .before .read-number .ensures) (c2 .before .number .given .1) (c3 .command-of .ensures) (c4 .found .given .1)
+    (on _ _ _ _ (c5 .before .before .before .field2 .ensures) (c5 .before .block .given .1)
+    (stop _ _ _ _ (c .before .before .before .field3 .ensures) (c .before .enum-told5 .given .1) (c .refused4 .ensures))))
 
 cast-t19 : tie.Need-cast-t19
 cast-t19 c =
@@ -119,7 +126,10 @@ returns-6 c =
     let c3 = c4 .before .before in
     let c2 = c3 .before in
     let c1 = c2 .before .before .before .before in
-    on _ _ _ _ (c1 .before .before .before .field .ensures) (c1 .before .unit .given .1) (on-command _ _ _ (c2 .before .before .before .read-number .ensures) (c2 .before .number .given .1) (c3 .command-of .ensures) (c4 .found .given .1) (on _ _ _ _ (c5 .before .before .before .field2 .ensures) (c5 .before .block .given .1) (on _ _ _ _ (c .before .before .before .field3 .ensures) (c .before .retried .given .1) (made _ _ _))))
+    on _ _ _ _ (c1 .before .before .before .field .ensures) (c1 .before .unit .given .1)
+    (on-command _ _ _ (c2 .before .before .before .read-number .ensures) (c2 .before .number .given .1) (c3 .command-of .ensures) (c4 .found .given .1)
+    (on _ _ _ _ (c5 .before .before .before .field2 .ensures) (c5 .before .block .given .1)
+    (on _ _ _ _ (c .before .before .before .field3 .ensures) (c .before .retried .given .1) (made _ _ _))))
 
 pub read-order-spec : {M : Type 1} → statement M
 read-order-spec =

@@ -40,7 +40,8 @@ returns-2 : tie.Need-returns-2
 unfolding register
 returns-2 c =
     let c1 = c .before .before .before .before in
-    on _ _ _ _ (c1 .before .before .before .field .ensures) (c1 .before .from .given .1) (stop _ _ _ _ (c .before .before .before .field2 .ensures) (c .before .enum-told2 .given .1) (c .refused2 .ensures))
+    on _ _ _ _ (c1 .before .before .before .field .ensures) (c1 .before .from .given .1)
+    (stop _ _ _ _ (c .before .before .before .field2 .ensures) (c .before .enum-told2 .given .1) (c .refused2 .ensures))
 
 field-requires-3 : tie.Need-field-requires-3
 field-requires-3 c κs = search needs
@@ -59,7 +60,9 @@ unfolding register
 returns-3 c =
     let c2 = c .before .before .before .before in
     let c1 = c2 .before .before .before .before in
-    on _ _ _ _ (c1 .before .before .before .field .ensures) (c1 .before .from .given .1) (on _ _ _ _ (c2 .before .before .before .field2 .ensures) (c2 .before .to .given .1) (stop _ _ _ _ (c .before .before .before .field3 .ensures) (c .before .enum-told3 .given .1) (c .refused3 .ensures)))
+    on _ _ _ _ (c1 .before .before .before .field .ensures) (c1 .before .from .given .1)
+    (on _ _ _ _ (c2 .before .before .before .field2 .ensures) (c2 .before .to .given .1)
+    (stop _ _ _ _ (c .before .before .before .field3 .ensures) (c .before .enum-told3 .given .1) (c .refused3 .ensures)))
 
 field-requires-4 : tie.Need-field-requires-4
 field-requires-4 c κs = search needs
@@ -79,7 +82,10 @@ returns-4 c =
     let c3 = c .before .before .before .before in
     let c2 = c3 .before .before .before .before in
     let c1 = c2 .before .before .before .before in
-    on _ _ _ _ (c1 .before .before .before .field .ensures) (c1 .before .from .given .1) (on _ _ _ _ (c2 .before .before .before .field2 .ensures) (c2 .before .to .given .1) (on _ _ _ _ (c3 .before .before .before .field3 .ensures) (c3 .before .aid .given .1) (stop _ _ _ _ (c .before .before .before .field4 .ensures) (c .before .enum-told4 .given .1) (c .refused4 .ensures))))
+    on _ _ _ _ (c1 .before .before .before .field .ensures) (c1 .before .from .given .1)
+    (on _ _ _ _ (c2 .before .before .before .field2 .ensures) (c2 .before .to .given .1)
+    (on _ _ _ _ (c3 .before .before .before .field3 .ensures) (c3 .before .aid .given .1)
+    (stop _ _ _ _ (c .before .before .before .field4 .ensures) (c .before .enum-told4 .given .1) (c .refused4 .ensures))))
 
 field-requires-5 : tie.Need-field-requires-5
 field-requires-5 c κs = search needs
@@ -100,7 +106,11 @@ returns-5 c =
     let c3 = c4 .before .before .before .before in
     let c2 = c3 .before .before .before .before in
     let c1 = c2 .before .before .before .before in
-    on _ _ _ _ (c1 .before .before .before .field .ensures) (c1 .before .from .given .1) (on _ _ _ _ (c2 .before .before .before .field2 .ensures) (c2 .before .to .given .1) (on _ _ _ _ (c3 .before .before .before .field3 .ensures) (c3 .before .aid .given .1) (on _ _ _ _ (c4 .before .before .before .field4 .ensures) (c4 .before .write .given .1) (stop _ _ _ _ (c .before .before .before .field5 .ensures) (c .before .enum-told5 .given .1) (c .refused5 .ensures)))))
+    on _ _ _ _ (c1 .before .before .before .field .ensures) (c1 .before .from .given .1)
+    (on _ _ _ _ (c2 .before .before .before .field2 .ensures) (c2 .before .to .given .1)
+    (on _ _ _ _ (c3 .before .before .before .field3 .ensures) (c3 .before .aid .given .1)
+    (on _ _ _ _ (c4 .before .before .before .field4 .ensures) (c4 .before .write .given .1)
+    (stop _ _ _ _ (c .before .before .before .field5 .ensures) (c .before .enum-told5 .given .1) (c .refused5 .ensures)))))
 
 field-requires-6 : tie.Need-field-requires-6
 field-requires-6 c κs = search needs
@@ -122,7 +132,12 @@ returns-6 c =
     let c3 = c4 .before .before .before .before in
     let c2 = c3 .before .before .before .before in
     let c1 = c2 .before .before .before .before in
-    on _ _ _ _ (c1 .before .before .before .field .ensures) (c1 .before .from .given .1) (on _ _ _ _ (c2 .before .before .before .field2 .ensures) (c2 .before .to .given .1) (on _ _ _ _ (c3 .before .before .before .field3 .ensures) (c3 .before .aid .given .1) (on _ _ _ _ (c4 .before .before .before .field4 .ensures) (c4 .before .write .given .1) (on _ _ _ _ (c5 .before .before .before .field5 .ensures) (c5 .before .ra .given .1) (stop _ _ _ _ (c .before .before .before .field6 .ensures) (c .before .enum-told6 .given .1) (c .refused6 .ensures))))))
+    on _ _ _ _ (c1 .before .before .before .field .ensures) (c1 .before .from .given .1)
+    (on _ _ _ _ (c2 .before .before .before .field2 .ensures) (c2 .before .to .given .1)
+    (on _ _ _ _ (c3 .before .before .before .field3 .ensures) (c3 .before .aid .given .1)
+    (on _ _ _ _ (c4 .before .before .before .field4 .ensures) (c4 .before .write .given .1)
+    (on _ _ _ _ (c5 .before .before .before .field5 .ensures) (c5 .before .ra .given .1)
+    (stop _ _ _ _ (c .before .before .before .field6 .ensures) (c .before .enum-told6 .given .1) (c .refused6 .ensures))))))
 
 cast-t22 : tie.Need-cast-t22
 cast-t22 c = let d = c .before .before .before .before .before .before .before .before .before .before .before .before .before .before .before .before .before .before .before .before in omega (arith, most _ _ _ (d .before .before .before .field .ensures) (d .before .from .given .1))
@@ -147,7 +162,12 @@ returns-7 c =
     let c3 = c4 .before .before .before .before in
     let c2 = c3 .before .before .before .before in
     let c1 = c2 .before .before .before .before in
-    on _ _ _ _ (c1 .before .before .before .field .ensures) (c1 .before .from .given .1) (on _ _ _ _ (c2 .before .before .before .field2 .ensures) (c2 .before .to .given .1) (on _ _ _ _ (c3 .before .before .before .field3 .ensures) (c3 .before .aid .given .1) (on _ _ _ _ (c4 .before .before .before .field4 .ensures) (c4 .before .write .given .1) (on _ _ _ _ (c5 .before .before .before .field5 .ensures) (c5 .before .ra .given .1) (on _ _ _ _ (c .before .before .before .field6 .ensures) (c .before .bct .given .1) (made _ _ _))))))
+    on _ _ _ _ (c1 .before .before .before .field .ensures) (c1 .before .from .given .1)
+    (on _ _ _ _ (c2 .before .before .before .field2 .ensures) (c2 .before .to .given .1)
+    (on _ _ _ _ (c3 .before .before .before .field3 .ensures) (c3 .before .aid .given .1)
+    (on _ _ _ _ (c4 .before .before .before .field4 .ensures) (c4 .before .write .given .1)
+    (on _ _ _ _ (c5 .before .before .before .field5 .ensures) (c5 .before .ra .given .1)
+    (on _ _ _ _ (c .before .before .before .field6 .ensures) (c .before .bct .given .1) (made _ _ _))))))
 
 pub read-register-spec : {M : Type 1} → statement M
 read-register-spec =

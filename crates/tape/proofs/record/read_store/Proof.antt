@@ -40,7 +40,8 @@ returns-2 : tie.Need-returns-2
 unfolding store
 returns-2 c =
     let c1 = c .before .before .before .before in
-    on _ _ _ _ (c1 .before .before .before .field .ensures) (c1 .before .unit .given .1) (stop _ _ _ _ (c .before .before .before .field2 .ensures) (c .before .enum-told2 .given .1) (c .refused2 .ensures))
+    on _ _ _ _ (c1 .before .before .before .field .ensures) (c1 .before .unit .given .1)
+    (stop _ _ _ _ (c .before .before .before .field2 .ensures) (c .before .enum-told2 .given .1) (c .refused2 .ensures))
 
 field-requires-3 : tie.Need-field-requires-3
 field-requires-3 c κs = search needs
@@ -59,7 +60,9 @@ unfolding store
 returns-3 c =
     let c2 = c .before .before .before .before in
     let c1 = c2 .before .before .before .before in
-    on _ _ _ _ (c1 .before .before .before .field .ensures) (c1 .before .unit .given .1) (on _ _ _ _ (c2 .before .before .before .field2 .ensures) (c2 .before .address .given .1) (stop _ _ _ _ (c .before .before .before .field3 .ensures) (c .before .enum-told3 .given .1) (c .refused3 .ensures)))
+    on _ _ _ _ (c1 .before .before .before .field .ensures) (c1 .before .unit .given .1)
+    (on _ _ _ _ (c2 .before .before .before .field2 .ensures) (c2 .before .address .given .1)
+    (stop _ _ _ _ (c .before .before .before .field3 .ensures) (c .before .enum-told3 .given .1) (c .refused3 .ensures)))
 
 cast-t13 : tie.Need-cast-t13
 cast-t13 c = let d = c .before .before .before .before .before .before .before .before in omega (arith, most _ _ _ (d .before .before .before .field .ensures) (d .before .unit .given .1))
@@ -75,7 +78,9 @@ unfolding store
 returns-4 c =
     let c2 = c .before .before .before .before in
     let c1 = c2 .before .before .before .before in
-    on _ _ _ _ (c1 .before .before .before .field .ensures) (c1 .before .unit .given .1) (on _ _ _ _ (c2 .before .before .before .field2 .ensures) (c2 .before .address .given .1) (on _ _ _ _ (c .before .before .before .field3 .ensures) (c .before .value .given .1) (made _ _ _)))
+    on _ _ _ _ (c1 .before .before .before .field .ensures) (c1 .before .unit .given .1)
+    (on _ _ _ _ (c2 .before .before .before .field2 .ensures) (c2 .before .address .given .1)
+    (on _ _ _ _ (c .before .before .before .field3 .ensures) (c .before .value .given .1) (made _ _ _)))
 
 pub read-store-spec : {M : Type 1} → statement M
 read-store-spec =

@@ -1,11 +1,10 @@
 -- `tape::write::put_all` meets its contract.
-use Prim.Native.Nat.{ℕ, _≤_, _<_, _+_, _*_, _-_}
-use mathlib.Core.Path.{_≡_, refl, sym, ap, _∙_}
+use Prim.Native.Nat.{_≤_, _+_, _-_}
+use mathlib.Core.Path.{_≡_, refl, _∙_}
 use native.Mathlib.Omega.{arith}
-use borrow.Author.Needs.{needs}
-use lib.ListN.{length, getD, drop}
-use lib.Seq.{sets, length-sets}
-use Rattle.tape.specs.Number.{spell, spellAll, groups}
+use lib.ListN.{length, drop}
+use lib.Seq.{sets}
+use Rattle.tape.specs.Number.{spell, spellAll}
 use Rattle.tape.proofs.SpellLaws.{all-end, size-step, put-step, room-step}
 use Rattle.tape.proofs.write.put_all.Statement.{statement}
 use Rattle.tape.proofs.write.put_all.Tie as tie

@@ -1,10 +1,9 @@
 -- `tape::write::size_all` meets its contract.
-use Prim.Native.Nat.{ℕ, _≤_, _<_, _+_, _*_, _-_}
-use mathlib.Core.Path.{_≡_, refl, sym, ap, _∙_}
+use Prim.Native.Nat.{_≤_, _+_, _*_, _-_}
+use mathlib.Core.Path.{_≡_, ap}
 use native.Mathlib.Omega.{arith}
 use borrow.Author.Needs.{needs}
 use lib.ListN.{length, getD, drop}
-use lib.Seq.{sets, length-sets}
 use Rattle.tape.specs.Number.{spell, spellAll, groups}
 use Rattle.tape.proofs.SpellLaws.{all-end, size-step, spell-short}
 use Rattle.tape.proofs.write.size_all.Statement.{statement}

@@ -1,8 +1,7 @@
 -- `tape::write::write_record` meets its contract.
-use Prim.Native.Nat.{_≤_}
-use mathlib.Core.Path.{_≡_, refl, sym, ap, _∙_}
+use mathlib.Core.Path.{sym, ap, _∙_}
 use native.Mathlib.Omega.{arith}
-use lib.ListN.{length, take, length-take}
+use lib.ListN.{length, length-take}
 use lib.Seq.{length-take-le, sets}
 use Rattle.tape.proofs.WriteLaws.{write-invalid, write-no-room, write-done, bytes-of-numbers}
 use borrow.Author.Needs.{needs}

@@ -1,0 +1,7 @@
+-- The rules of the bus that need no cache.
+pub mod Range
+pub mod Bits
+pub mod Parity
+pub mod Lanes
+pub mod Transfer
+pub mod Answer

@@ -1,0 +1,6 @@
+-- The laws of the handler.
+pub mod RoundRobin
+pub mod Allowed
+pub mod StateParts
+pub mod GrantCases
+pub mod HandlerLaws

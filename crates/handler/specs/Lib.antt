@@ -1,0 +1,2 @@
+-- The bus handler.
+pub mod Handler

@@ -1,0 +1,170 @@
+-- An access part by part: the directory, the stores and the orders after each action, and after a whole access.
+use mathlib.Core.Path.{_≡_, refl, sym, ap, _∙_}
+use mathlib.Core.Bool.{Bool, true, false, cond, false≢true}
+use mathlib.Core.List.{List, [], _∷_, _++_, append-assoc}
+use Prim.Native.Nat.{ℕ, _/_}
+use lib.Dec.{ltb}
+use Rattle.order.specs.declared.Command.{Command}
+use Rattle.order.specs.declared.Command.the-variants.{Read, ModifiedRead, Invalidate, Copyback}
+use Rattle.order.specs.declared.Order.{Order}
+use Rattle.coherence.specs.declared.Slot.{Slot}
+use Rattle.coherence.specs.declared.Slot.the-variants.{Invalid, Shared, Modified}
+use Rattle.coherence.specs.declared.Directory.{Directory}
+use Rattle.coherence.specs.Bytes.{blockAt, putBlock, putWord}
+use Rattle.coherence.specs.Slots.{place, slotAt, setSlot, holds, modified, ownerOf}
+use Rattle.coherence.specs.Access.{Run, ready, give, mark, writeBack, copyback, emptied, empty, yield, ask, fill, fetch, own, write, cachePlace, load, store, flush}
+use Rattle.coherence.proofs.SlotLaws.{holds-invalid}
+use Rattle.machine.specs.Directory.{claimedAtOnce}
+use Rattle.machine.specs.Access.{order, evictionOrders, askOrders, fetchOrders, evictedMemory, yieldedMemory, fetchedMemory, fetchedCache, yieldedDirectory, fetchedDirectory}
+use Rattle.machine.proofs.Sets.{set-over, set-past, owner-past}
+use Rattle.machine.proofs.Claims.{claim-is}
+
+-- a machine by its parts
+abbrev pub machine : Directory → List ℕ → List ℕ → List Order → Run
+machine d m c os = record { directory = d; memory = m; cache = c; orders = os }
+
+-- the directory once slot n, which is x, is emptied
+unfoldable emptiedDirectory : ℕ → Slot → Directory → Directory
+emptiedDirectory n Invalid d = d
+emptiedDirectory n (Shared b) d = setSlot d n Invalid
+emptiedDirectory n (Modified b) d = setSlot d n Invalid
+
+not-modified : (x : Slot) (b : ℕ) → holds x b ≡ false → modified x b ≡ false
+unfolding holds modified
+not-modified Invalid b h = refl
+not-modified (Shared c) b h = refl
+not-modified (Modified c) b h = h
+
+-- ---- the actions
+emptied-is : (u n : ℕ) (x : Slot) (d : Directory) (m c : List ℕ)
+    → emptied u n x (machine d m c []) ≡ machine (emptiedDirectory n x d) (evictedMemory n x m c) c (evictionOrders u x)
+unfolding emptied emptiedDirectory evictedMemory evictionOrders mark copyback writeBack give
+emptied-is u n Invalid d m c = refl
+emptied-is u n (Shared b) d m c = refl
+emptied-is u n (Modified b) d m c =
+    ap (λ (e : Directory). machine e (putBlock m b (blockAt c n)) c (order u Copyback b false ∷ [])) (set-over d n (Shared b) Invalid)
+
+empty-is : (u n : ℕ) (d : Directory) (m c : List ℕ)
+    → empty u n (machine d m c []) ≡ machine (emptiedDirectory n (slotAt d n) d) (evictedMemory n (slotAt d n) m c) c (evictionOrders u (slotAt d n))
+unfolding empty
+empty-is u n d m c = emptied-is u n (slotAt d n) d m c
+
+three : (os : List Order) (x y z : Order) → os ++ (x ∷ []) ++ (y ∷ []) ++ (z ∷ []) ≡ os ++ (x ∷ y ∷ z ∷ [])
+three os x y z = simp append-assoc
+
+ask-is : (u : ℕ) (k : Command) (b : ℕ) (d : Directory) (m c : List ℕ) (os : List Order)
+    → ask u k b (machine d m c os)
+    ≡ machine (yieldedDirectory b (ownerOf d b) d) (yieldedMemory b (ownerOf d b) m c) c (os ++ askOrders u k b (ownerOf d b))
+unfolding ask give yield copyback mark writeBack yieldedDirectory yieldedMemory askOrders
+ask-is u k b d m c os = go (ownerOf d b)
+  where
+    go : (v : ℕ) → give u k b false (yield u k b v (machine d m c os)) ≡ machine (yieldedDirectory b v d) (yieldedMemory b v m c) c (os ++ askOrders u k b v)
+    go v = by (ltb v 4)
+      where
+        by : (t : Bool)
+            → give u k b false (cond t (copyback v (place v b) b (give u k b true (machine d m c os))) (machine d m c os))
+            ≡ machine (cond t (setSlot d (place v b) (Shared b)) d) (cond t (putBlock m b (blockAt c (place v b))) m) c
+            (os ++ cond t (order u k b true ∷ order v Copyback b false ∷ order u k b false ∷ []) (order u k b false ∷ []))
+        by true =
+            ap (machine (setSlot d (place v b) (Shared b)) (putBlock m b (blockAt c (place v b))) c)
+            (three os (order u k b true) (order v Copyback b false) (order u k b false))
+        by false = refl
+
+-- emptying a slot that does not hold b moves no owner of b
+owner-emptied : (d : Directory) (n b : ℕ) → holds (slotAt d n) b ≡ false → ownerOf (emptiedDirectory n (slotAt d n) d) b ≡ ownerOf d b
+unfolding modified emptiedDirectory
+owner-emptied d n b h = go (slotAt d n)
+  where
+    past : ownerOf (setSlot d n Invalid) b ≡ ownerOf d b
+    past = owner-past d n Invalid b (not-modified (slotAt d n) b h) refl
+
+    go : (x : Slot) → ownerOf (emptiedDirectory n x d) b ≡ ownerOf d b
+    go Invalid = refl
+    go (Shared c) = past
+    go (Modified c) = past
+
+-- and is not seen once the slot is filled
+filled-over : (d : Directory) (n b v : ℕ) (x : Slot) → setSlot (yieldedDirectory b v (emptiedDirectory n x d)) n (Shared b) ≡ fetchedDirectory n b v d
+unfolding fetchedDirectory yieldedDirectory emptiedDirectory
+filled-over d n b v x = go x (ltb v 4)
+  where
+    go : (x : Slot) (t : Bool)
+        → setSlot (cond t (setSlot (emptiedDirectory n x d) (place v b) (Shared b)) (emptiedDirectory n x d)) n (Shared b)
+        ≡ setSlot (cond t (setSlot d (place v b) (Shared b)) d) n (Shared b)
+    go Invalid t = refl
+    go (Shared c) true = set-past d n (place v b) Invalid (Shared b) (Shared b)
+    go (Shared c) false = set-over d n Invalid (Shared b)
+    go (Modified c) true = set-past d n (place v b) Invalid (Shared b) (Shared b)
+    go (Modified c) false = set-over d n Invalid (Shared b)
+
+-- unit u, which does not hold block b, gets it by the order k
+fetch-is : (u : ℕ) (k : Command) (b : ℕ) (d : Directory) (m c : List ℕ) → holds (slotAt d (place u b)) b ≡ false
+    → let n = place u b in let x = slotAt d n in let v = ownerOf d b in
+    fetch u k b (ready d m c) ≡ machine (fetchedDirectory n b v d) (fetchedMemory n b x v m c) (fetchedCache n b x v m c) (fetchOrders u k b x v)
+unfolding fetch ready fill fetchedMemory fetchedCache fetchOrders
+fetch-is u k b d m c h =
+    let n : ℕ = place u b in
+    let x : Slot = slotAt d n in
+    let e : Directory = emptiedDirectory n x d in
+    let m₁ : List ℕ = evictedMemory n x m c in
+    ap (λ (w : Run). fill n b (ask u k b w)) (empty-is u n d m c)
+    ∙ ap (fill n b) (ask-is u k b e m₁ c (evictionOrders u x))
+    ∙ ap (λ (v : ℕ). fill n b (machine (yieldedDirectory b v e) (yieldedMemory b v m₁ c) c (evictionOrders u x ++ askOrders u k b v))) (owner-emptied d n b h)
+    ∙ ap
+    (λ (f : Directory).
+    machine f (fetchedMemory n b x (ownerOf d b) m c) (fetchedCache n b x (ownerOf d b) m c) (fetchOrders u k b x (ownerOf d b)))
+    (filled-over d n b (ownerOf d b) x)
+
+-- ---- loads
+pub load-held : (u a : ℕ) (d : Directory) (m c : List ℕ) → holds (slotAt d (place u (a / 32))) (a / 32) ≡ true
+    → load u a (ready d m c) ≡ machine d m c []
+unfolding load ready
+load-held u a d m c h = rw h
+
+pub load-missed : (u a : ℕ) (d : Directory) (m c : List ℕ) → holds (slotAt d (place u (a / 32))) (a / 32) ≡ false
+    → let b = a / 32 in let n = place u b in let x = slotAt d n in let v = ownerOf d b in
+    load u a (ready d m c) ≡ machine (fetchedDirectory n b v d) (fetchedMemory n b x v m c) (fetchedCache n b x v m c) (fetchOrders u Read b x v)
+unfolding load ready
+load-missed u a d m c h = rw h (fetch-is u Read (a / 32) d m c h)
+
+-- ---- stores
+pub store-owned : (u a v : ℕ) (d : Directory) (m c : List ℕ) → modified (slotAt d (place u (a / 32))) (a / 32) ≡ true
+    → store u a v (ready d m c) ≡ machine d m (putWord c (cachePlace u a) v) []
+unfolding store own write ready
+store-owned u a v d m c h = rw h
+
+pub store-shared : (u a v : ℕ) (d : Directory) (m c : List ℕ) → modified (slotAt d (place u (a / 32))) (a / 32) ≡ false
+    → holds (slotAt d (place u (a / 32))) (a / 32) ≡ true
+    → store u a v (ready d m c) ≡ machine (claimedAtOnce u (a / 32) d) m (putWord c (cachePlace u a) v) (order u Invalidate (a / 32) false ∷ [])
+unfolding store own write ready give
+store-shared u a v d m c g h =
+    rw (g, h) (ap (write u a v) (claim-is u (a / 32) (give u Invalidate (a / 32) false (ready d m c))))
+
+pub store-missed : (u a v : ℕ) (d : Directory) (m c : List ℕ) → modified (slotAt d (place u (a / 32))) (a / 32) ≡ false
+    → holds (slotAt d (place u (a / 32))) (a / 32) ≡ false
+    → let b = a / 32 in let n = place u b in let x = slotAt d n in let o = ownerOf d b in
+    store u a v (ready d m c)
+    ≡ machine (claimedAtOnce u b (fetchedDirectory n b o d)) (fetchedMemory n b x o m c) (putWord (fetchedCache n b x o m c) (cachePlace u a) v) (fetchOrders u ModifiedRead b x o)
+unfolding store own write ready
+store-missed u a v d m c g h =
+    rw (g, h)
+    (ap (write u a v) (claim-is u (a / 32) (fetch u ModifiedRead (a / 32) (ready d m c)) ∙ ap (λ (w : Run). machine (claimedAtOnce u (a / 32) (w .directory)) (w .memory) (w .cache) (w .orders)) (fetch-is u ModifiedRead (a / 32) d m c h)))
+
+-- ---- flushes
+pub flush-held : (u b : ℕ) (d : Directory) (m c : List ℕ) → holds (slotAt d (place u b)) b ≡ true
+    → let n = place u b in let x = slotAt d n in
+    flush u b (ready d m c) ≡ machine (setSlot d n Invalid) (evictedMemory n x m c) c (evictionOrders u x)
+unfolding flush ready emptiedDirectory
+flush-held u b d m c h =
+    let n : ℕ = place u b in
+    let x : Slot = slotAt d n in
+    rw h (empty-is u n d m c ∙ ap (λ (e : Directory). machine e (evictedMemory n x m c) c (evictionOrders u x)) (valid x h))
+  where
+    valid : (x : Slot) → holds x b ≡ true → emptiedDirectory (place u b) x d ≡ setSlot d (place u b) Invalid
+    valid Invalid g = absurd (false≢true (sym (holds-invalid b) ∙ g))
+    valid (Shared e) g = refl
+    valid (Modified e) g = refl
+
+pub flush-missed : (u b : ℕ) (d : Directory) (m c : List ℕ) → holds (slotAt d (place u b)) b ≡ false → flush u b (ready d m c) ≡ machine d m c []
+unfolding flush ready
+flush-missed u b d m c h = rw h

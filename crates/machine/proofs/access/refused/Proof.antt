@@ -1,0 +1,13 @@
+-- `machine::access::refused` meets its contract.
+use borrow.Author.Needs.{needs}
+use Rattle.machine.proofs.access.refused.Statement.{statement}
+use Rattle.machine.proofs.access.refused.Tie as tie
+
+no-orders-requires : tie.Need-no-orders-requires
+no-orders-requires c κs = search needs
+
+returns : tie.Need-returns
+returns c = rw (c .no-orders .ensures)
+
+pub refused-spec : {M : Type 1} → statement M
+refused-spec = tie.close (tie.spec no-orders-requires returns)

@@ -1,0 +1,19 @@
+// Runs values of document 01 through the public calls and prints a line for each: the inputs, then the answer. The file `stdout` beside
+// src/ says what must be printed; it was written by hand from document 01, whose sentences stand beside each table of inputs.
+mod caches;
+mod grants;
+mod print;
+mod signals;
+mod tapes;
+
+fn main() {
+    signals::run_parities();
+    signals::run_lanes();
+    signals::run_plans();
+    signals::run_codes();
+    signals::run_classes();
+    grants::run_grants();
+    tapes::run_readings();
+    tapes::run_writings();
+    caches::run_calls();
+}
