@@ -4,36 +4,18 @@ use mathlib.Core.Bool.{Bool, true, false, cond}
 use mathlib.Core.List.{List}
 use Prim.Native.Nat.{ℕ, _%_, _<_, _≤_}
 use native.Mathlib.Omega.{arith}
-use lib.ListN.{length}
 use lib.Dec.{eqb, leb}
 use borrow.Author.Tests.{eqb-true, leb-true}
 use Rattle.coherence.specs.declared.Directory.{Directory}
 use Rattle.coherence.specs.declared.Slot.{Slot}
 use Rattle.coherence.specs.declared.Slot.the-variants.{Invalid, Shared, Modified}
 use Rattle.coherence.specs.Slots.{sound, place, slotAt, blockOf}
-use Rattle.coherence.specs.Refusal.{firstRefusal, sized, isUnit, isAddress, isBlock, sizeTest, directoryTest, unitTest, targetTest, callRefusal, startRefusal, peekRefusal}
+use Rattle.coherence.specs.Refusal.{sized, isUnit, isAddress, isBlock, callRefusal, peekRefusal}
 use Rattle.coherence.proofs.Below.{both}
+use Rattle.coherence.proofs.RefusalLaws.{call-tests, peek-tests, sized-say}
 use Rattle.coherence.proofs.SlotLaws.{place-lt, shared-holds, modified-holds}
 use Rattle.coherence.proofs.Rules.{sound-placed}
 use Rattle.machine.specs.Access.{Sized}
-
--- ---- the number that the tests give, by their outcomes
-
-pub call-number : (d : Directory) (m k : List ℕ) (u : ℕ) (good : Bool)
-    → callRefusal d m k u good ≡ cond (sized m k) (cond (sound d) (cond (isUnit u) (cond good 0 4) 3) 2) 1
-unfolding callRefusal firstRefusal sizeTest directoryTest unitTest targetTest
-call-number d m k u good = refl
-
-pub peek-number : (d : Directory) (m k : List ℕ) (b : ℕ)
-    → peekRefusal d m k b ≡ cond (sized m k) (cond (sound d) (cond (isBlock b) 0 4) 2) 1
-unfolding peekRefusal firstRefusal sizeTest directoryTest targetTest
-peek-number d m k b = refl
-
-pub start-number : (m k : List ℕ) → startRefusal m k ≡ cond (sized m k) 0 1
-unfolding startRefusal firstRefusal sizeTest
-start-number m k = refl
-
--- ---- and back
 
 all-pass : (a b c d : Bool) → _≡_ {A = ℕ} (cond a (cond b (cond c (cond d 0 4) 3) 2) 1) 0
     → (a ≡ true) × (b ≡ true) × (c ≡ true) × (d ≡ true)
@@ -44,10 +26,7 @@ all-pass true false c d e = absurd (omega arith)
 all-pass false b c d e = absurd (omega arith)
 
 pub sizes-of : (m k : List ℕ) → sized m k ≡ true → Sized m k
-unfolding sized
-sizes-of m k e =
-    let h = both (eqb (length m) 2048) (eqb (length k) 2048) e in
-    record { memory = eqb-true _ _ (h .0); cache = eqb-true _ _ (h .1) }
+sizes-of m k e = let h = sized-say m k e in record { memory = h .0; cache = h .1 }
 
 pub address-of : (a : ℕ) → isAddress a ≡ true → (a % 4 ≡ 0) × (a ≤ 2044)
 unfolding isAddress
@@ -80,7 +59,7 @@ pub record Known (d : Directory) (m k : List ℕ) (u : ℕ) (good : Bool) : Type
 
 pub known : (d : Directory) (m k : List ℕ) (u : ℕ) (good : Bool) → callRefusal d m k u good ≡ 0 → Known d m k u good
 known d m k u good e =
-    let p = all-pass (sized m k) (sound d) (isUnit u) good (rw (call-number d m k u good) at e) in
+    let p = all-pass (sized m k) (sound d) (isUnit u) good (rw (call-tests d m k u good) at e) in
     let h : u < 4 = omega (arith, unit-of u (p .2)) in
     record {
       sizes = sizes-of m k (p .0);
@@ -91,5 +70,5 @@ known d m k u good e =
 
 pub peek-known : (d : Directory) (m k : List ℕ) (b : ℕ) → peekRefusal d m k b ≡ 0 → Sized m k × (b ≤ 63)
 peek-known d m k b e =
-    let p = all-pass (sized m k) (sound d) true (isBlock b) (rw (peek-number d m k b) at e) in
+    let p = all-pass (sized m k) (sound d) true (isBlock b) (rw (peek-tests d m k b) at e) in
     (sizes-of m k (p .0), block-of b (p .3))

@@ -4,7 +4,8 @@ use mathlib.Core.Path.{refl, sym, _∙_, ap}
 use Prim.Native.Nat.{ℕ}
 use lib.ListN.{replicate}
 use Rattle.coherence.specs.Calls.{startAnswer, cacheStarted}
-use Rattle.machine.proofs.Refusals.{start-number, sizes-of}
+use Rattle.coherence.proofs.RefusalLaws.{start-tests}
+use Rattle.machine.proofs.Refusals.{sizes-of}
 use Rattle.machine.proofs.cold_start.Statement.{statement}
 use Rattle.machine.proofs.cold_start.Tie as tie
 
@@ -27,7 +28,7 @@ returns c =
     let k = c .before .before .before .before .before .before .before .before .before .before .args .cache .now in
     let p = sym (c .before .before .before .before .before .is-sized .ensures) ∙ c .before .before .before .before .if1 .taken in
     let z = sizes-of m k p .cache in
-    rw (start-number m k, p, c .before .before .before .before .before .before .before .cold-directory .ensures) (refl, c .before .before .clear .ensures ∙ ap (λ (n : ℕ). replicate n 0) z)
+    rw (start-tests m k, p, c .before .before .before .before .before .before .before .cold-directory .ensures) (refl, c .before .before .clear .ensures ∙ ap (λ (n : ℕ). replicate n 0) z)
 
 same-length-2 : tie.Need-same-length-2
 same-length-2 c = search needs
@@ -36,7 +37,7 @@ returns-2 : tie.Need-returns-2
 unfolding startAnswer cacheStarted
 returns-2 c =
     let p = sym (c .before .is-sized .ensures) ∙ c .if1 .left in
-    rw (start-number _ _, p, c .before .before .before .cold-directory .ensures) (refl, refl)
+    rw (start-tests _ _, p, c .before .before .before .cold-directory .ensures) (refl, refl)
 
 pub cold-start-spec : {M : Type 1} → statement M
 cold-start-spec =

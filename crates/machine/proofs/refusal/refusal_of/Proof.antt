@@ -3,7 +3,7 @@ use borrow.Author.Needs.{needs}
 use mathlib.Core.Path.{_∙_, sym}
 use borrow.Author.Tests.{le-leb, lt-leb, not-true, not-false}
 use Rattle.coherence.specs.Refusal.{isUnit}
-use Rattle.machine.proofs.Refusals.{call-number}
+use Rattle.coherence.proofs.RefusalLaws.{call-tests}
 use Rattle.machine.proofs.refusal.refusal_of.Statement.{statement}
 use Rattle.machine.proofs.refusal.refusal_of.Tie as tie
 
@@ -14,7 +14,7 @@ returns : tie.Need-returns
 returns c =
     let a = c .before .before .before .before .args in
     let p = sym (c .before .is-sized .ensures) ∙ not-true _ (c .if1 .taken) in
-    rw (call-number (a .directory) (a .memory .now) (a .cache .now) (a .unit) (a .good), p)
+    rw (call-tests (a .directory) (a .memory .now) (a .cache .now) (a .unit) (a .good), p)
 
 is-sound-requires : tie.Need-is-sound-requires
 is-sound-requires c κs = search needs
@@ -24,7 +24,7 @@ returns-2 c =
     let a = c .before .before .before .before .before .before .args in
     let p = sym (c .before .before .before .is-sized .ensures) ∙ not-false _ (c .before .before .if1 .left) in
     let q = sym (c .before .is-sound .ensures) ∙ not-true _ (c .if2 .taken) in
-    rw (call-number (a .directory) (a .memory .now) (a .cache .now) (a .unit) (a .good), p, q)
+    rw (call-tests (a .directory) (a .memory .now) (a .cache .now) (a .unit) (a .good), p, q)
 
 returns-3 : tie.Need-returns-3
 unfolding isUnit
@@ -32,7 +32,7 @@ returns-3 c =
     let a = c .before .before .before .before .before .before .before .args in
     let p = sym (c .before .before .before .before .is-sized .ensures) ∙ not-false _ (c .before .before .before .if1 .left) in
     let q = sym (c .before .before .is-sound .ensures) ∙ not-false _ (c .before .if2 .left) in
-    rw (call-number (a .directory) (a .memory .now) (a .cache .now) (a .unit) (a .good), p, q, lt-leb _ _ (c .if3 .taken))
+    rw (call-tests (a .directory) (a .memory .now) (a .cache .now) (a .unit) (a .good), p, q, lt-leb _ _ (c .if3 .taken))
 
 returns-4 : tie.Need-returns-4
 unfolding isUnit
@@ -40,7 +40,7 @@ returns-4 c =
     let a = c .before .before .before .before .before .before .before .before .args in
     let p = sym (c .before .before .before .before .before .is-sized .ensures) ∙ not-false _ (c .before .before .before .before .if1 .left) in
     let q = sym (c .before .before .before .is-sound .ensures) ∙ not-false _ (c .before .before .if2 .left) in
-    rw (call-number (a .directory) (a .memory .now) (a .cache .now) (a .unit) (a .good), p, q, le-leb _ _ (c .before .if3 .left), c .if4 .taken)
+    rw (call-tests (a .directory) (a .memory .now) (a .cache .now) (a .unit) (a .good), p, q, le-leb _ _ (c .before .if3 .left), c .if4 .taken)
 
 returns-5 : tie.Need-returns-5
 unfolding isUnit
@@ -48,7 +48,7 @@ returns-5 c =
     let a = c .before .before .before .before .before .before .before .before .args in
     let p = sym (c .before .before .before .before .before .is-sized .ensures) ∙ not-false _ (c .before .before .before .before .if1 .left) in
     let q = sym (c .before .before .before .is-sound .ensures) ∙ not-false _ (c .before .before .if2 .left) in
-    rw (call-number (a .directory) (a .memory .now) (a .cache .now) (a .unit) (a .good), p, q, le-leb _ _ (c .before .if3 .left), c .if4 .left)
+    rw (call-tests (a .directory) (a .memory .now) (a .cache .now) (a .unit) (a .good), p, q, le-leb _ _ (c .before .if3 .left), c .if4 .left)
 
 pub refusal-of-spec : {M : Type 1} → statement M
 refusal-of-spec =
