@@ -1,4 +1,5 @@
 // The machine's calls at each limit of "Numbers of refusal", 1 to 4, and the order of the tests.
+use crate::print::byte;
 use crate::print::line;
 use crate::print::number;
 use crate::print::word;
@@ -168,5 +169,39 @@ fn row(values: [u32; 7]) {
 pub(crate) fn run_calls() {
     for k in 0..27 {
         row(CALLS[k]);
+    }
+}
+
+// "Cold start tests 1 alone", "cache store all zeros": the sizes of the memory store and the cache store, whose bytes are 7 before.
+const STARTS: [[usize; 2]; 5] = [
+    [2048, 2048],
+    [2047, 2048],
+    [2049, 2048],
+    [2048, 2047],
+    [2048, 2049],
+];
+
+fn start(sizes: [usize; 2]) {
+    let memory = [7u8; 2049];
+    let mut cache = [7u8; 2049];
+    let m = sizes[0];
+    let c = sizes[1];
+    number(b"start ", m as u64);
+    number(b" ", c as u64);
+    if m <= 2049 {
+        if c <= 2049 {
+            let started = machine::cold_start(&memory[0..m], &mut cache[0..c]);
+            number(b": refusal ", started.refusal as u64);
+        }
+    }
+    word(b" cache");
+    byte(cache[0]);
+    byte(cache[2046]);
+    line();
+}
+
+pub(crate) fn run_starts() {
+    for k in 0..5 {
+        start(STARTS[k]);
     }
 }

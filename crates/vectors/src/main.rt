@@ -1,6 +1,7 @@
 // Runs values of document 01 through the public calls and prints a line for each: the inputs, then the answer. The file `stdout` beside
 // src/ says what must be printed; it was written by hand from document 01, whose sentences stand beside each table of inputs.
 mod caches;
+mod drills;
 mod grants;
 mod print;
 mod signals;
@@ -15,5 +16,7 @@ fn main() {
     grants::run_grants();
     tapes::run_readings();
     tapes::run_writings();
+    caches::run_starts();
     caches::run_calls();
+    drills::run_drills();
 }
