@@ -1,3 +1,4 @@
+-- The laws of a drill.
 pub mod WritingLaws
 pub mod LineLaws
 pub mod StepLaws

@@ -42,9 +42,13 @@ same-length-2 c = search needs
 returns-2 : tie.Need-returns-2
 unfolding zeroStore
 returns-2 c =
-    let p = c .before .before .before .before .run-tape .ensures in
-    let s = c .before .before .before .before .before .before .before .before .before .before .cold-start in
-    (rw (whole-text (c .before .before .before .before .before .before .before .before .before .before .before .before .before .before .before .before .args .tape .now) _ _ _ (c .before .before .before .before .before .before .before .before .before .before .before .before .before .if1 .left) (started-directory _ _ _ (s .ensures .0)) refl (started-cache _ _ _ refl refl (s .ensures .1))) at (p .0), p .1)
+    let run = c .before .before .before .before in
+    let start = run .before .before .before .before .before .before in
+    let test = start .before .before .before in
+    let zeros = started-cache _ _ _ refl refl (start .cold-start .ensures .1) in
+    let directory = started-directory _ _ _ (start .cold-start .ensures .0) in
+    let text = whole-text (test .before .before .before .args .tape .now) _ _ _ (test .if1 .left) directory refl zeros in
+    (rw text at (run .run-tape .ensures .0), run .run-tape .ensures .1)
 
 pub play-spec : {M : Type 1} → statement M
 play-spec =

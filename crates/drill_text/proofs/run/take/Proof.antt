@@ -30,7 +30,11 @@ same-length-3 : tie.Need-same-length-3
 same-length-3 c = search needs
 
 returns-2 : tie.Need-returns-2
-returns-2 c = asked _ _ _ _ _ _ _ _ _ _ (sym (c .before .before .before .before .before .before .before .before .before .before .before .before .before .access-of .ensures) ∙ c .before .before .before .before .before .before .before .before .before .before .before .call .given .1) (c .before .before .before .before .before .before .run-call .ensures)
+returns-2 c =
+    let run = c .before .before .before .before .before .before in
+    let bound = run .before .before .before .before .before in
+    let asks = sym (bound .before .before .access-of .ensures) ∙ bound .call .given .1 in
+    asked _ _ _ _ _ _ _ _ _ _ asks (run .run-call .ensures)
 
 pub take-spec : {M : Type 1} → statement M
 take-spec =
