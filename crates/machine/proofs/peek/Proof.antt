@@ -1,13 +1,11 @@
 -- `machine::peek` meets its contract.
 use borrow.Author.Needs.{needs}
 use mathlib.Core.Path.{sym}
-use mathlib.Core.Path.{_≡_, _∙_}
+use mathlib.Core.Path.{_∙_}
 use native.Mathlib.Omega.{arith}
 use borrow.Author.Tests.{eq-eqb, ne-eqb, lt-ltb, le-ltb}
 use Rattle.coherence.specs.Peek.{peeked, peekFromCache, peekOffset, newest, newestBlock, fromCache}
 use Rattle.coherence.specs.Refusal.{peekRefusal}
-use Rattle.coherence.specs.Slots.{ownerOf}
-use Prim.Native.Nat.{_<_, _≤_}
 use Rattle.machine.proofs.Refusals.{peek-known}
 use Rattle.machine.proofs.peek.Statement.{statement}
 use Rattle.machine.proofs.peek.Tie as tie
