@@ -28,9 +28,6 @@ expel-is : (u b v : ℕ) (w : Run) → expel u b v w ≡ withDirectory (λ d. re
 unfolding expel mark withDirectory releaseInto released
 expel-is u b v w = go (not (eqb v u) && holds (slotAt (w .directory) (place v b)) b)
   where
-    x : Slot
-    x = slotAt (w .directory) (place v b)
-
     go : (t : Bool) → cond t (mark (place v b) Invalid w) w ≡ withDirectory (λ d. setSlot d (place v b) (cond t Invalid (slotAt d (place v b)))) w
     go true = refl
     go false = sym (ap (λ (d : Directory). withDirectory (λ _. d) w) (set-own (w .directory) (place v b)))
