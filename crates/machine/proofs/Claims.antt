@@ -4,7 +4,7 @@ use mathlib.Core.Bool.{Bool, true, false, cond, not, _&&_}
 use Prim.Native.Nat.{ℕ, _+_, _*_, _%_}
 use native.Mathlib.Omega.{arith}
 use lib.Dec.{eqb}
-use lib.ListN.{getD, set}
+use lib.ListN.{getD}
 use lib.Seq.{set-getD}
 use Rattle.coherence.specs.declared.Slot.{Slot}
 use Rattle.coherence.specs.declared.Slot.the-variants.{Invalid, Modified}
@@ -13,7 +13,7 @@ use Rattle.coherence.specs.declared.Entry.{Entry}
 use mathlib.Core.List.{List}
 use Rattle.coherence.specs.Slots.{emptyEntry, place, slotAt, setSlot, holds, ownerOf}
 use Rattle.coherence.specs.Access.{Run, mark, expel, eachUnit, claim}
-use Rattle.machine.specs.Directory.{firstModified, released, releaseInto, claimedAtOnce}
+use Rattle.machine.specs.Directory.{firstModified, released, releaseInto, setColumn, claimedAtOnce}
 use Rattle.coherence.proofs.SlotLaws.{slot-other}
 
 set-own : (d : Directory) (n : ℕ) → setSlot d n (slotAt d n) ≡ d
@@ -28,9 +28,6 @@ expel-is : (u b v : ℕ) (w : Run) → expel u b v w ≡ withDirectory (λ d. re
 unfolding expel mark withDirectory releaseInto released
 expel-is u b v w = go (not (eqb v u) && holds (slotAt (w .directory) (place v b)) b)
   where
-    x : Slot
-    x = slotAt (w .directory) (place v b)
-
     go : (t : Bool) → cond t (mark (place v b) Invalid w) w ≡ withDirectory (λ d. setSlot d (place v b) (cond t Invalid (slotAt d (place v b)))) w
     go true = refl
     go false = sym (ap (λ (d : Directory). withDirectory (λ _. d) w) (set-own (w .directory) (place v b)))
@@ -76,23 +73,18 @@ place-at : (v b s : ℕ) → s ≡ b % 16 → place v b ≡ 16 * v + s
 unfolding place
 place-at v b s h = omega arith
 
-pub claimed-list : (d : Directory) (u b s n : ℕ) (w x y z : Slot) → s ≡ b % 16 → n ≡ place u b
+-- the four slots, released and written together, and the unit's own
+pub claimed-column : (d : Directory) (u b s : ℕ) (w x y z : Slot) → s ≡ b % 16
     → w ≡ released (getD (d .slots) s emptyEntry .slot) b 0 u → x ≡ released (getD (d .slots) (16 + s) emptyEntry .slot) b 1 u
     → y ≡ released (getD (d .slots) (32 + s) emptyEntry .slot) b 2 u → z ≡ released (getD (d .slots) (48 + s) emptyEntry .slot) b 3 u
-    → _≡_ {A = Directory}
-    (record {
-      slots =
-          set (set (set (set (set (d .slots) s (record { slot = w })) (16 + s) (record { slot = x })) (32 + s) (record { slot = y })) (48 + s) (record { slot = z })) n
-          (record { slot = Modified b });
-    })
-    (claimedAtOnce u b d)
-unfolding claimedAtOnce releaseInto setSlot slotAt
-claimed-list d u b s n w x y z hs hn hw hx hy hz =
+    → setSlot (setColumn d s w x y z) (place u b) (Modified b) ≡ claimedAtOnce u b d
+unfolding claimedAtOnce releaseInto setColumn slotAt
+claimed-column d u b s w x y z hs hw hx hy hz =
     let e₀ : place 0 b ≡ s = place-at 0 b s hs ∙ omega arith in
     let e₁ : place 1 b ≡ 16 + s = place-at 1 b s hs ∙ omega arith in
     let e₂ : place 2 b ≡ 32 + s = place-at 2 b s hs ∙ omega arith in
     let e₃ : place 3 b ≡ 48 + s = place-at 3 b s hs ∙ omega arith in
-    rw (e₀, e₁, e₂, e₃, hn, hw, hx, hy, hz) refl
+    ap (λ (f : Directory). setSlot f (place u b) (Modified b)) (rw (e₀, e₁, e₂, e₃, hw, hx, hy, hz) refl)
 
 -- the owner of a block, from the four slots in which it has its place
 pub owner-column : (d : Directory) (b s : ℕ) → s ≡ b % 16

@@ -61,3 +61,7 @@ releaseInto u b d v e = setSlot e (place v b) (released (slotAt d (place v b)) b
 unfoldable pub claimedAtOnce : ℕ → ℕ → Directory → Directory
 claimedAtOnce u b d =
     setSlot (releaseInto u b d 3 (releaseInto u b d 2 (releaseInto u b d 1 (releaseInto u b d 0 d)))) (place u b) (Modified b)
+
+-- the four units' slots s become w, x, y and z
+unfoldable pub setColumn : Directory → ℕ → Slot → Slot → Slot → Slot → Directory
+setColumn d s w x y z = setSlot (setSlot (setSlot (setSlot d s w) (16 + s) x) (32 + s) y) (48 + s) z

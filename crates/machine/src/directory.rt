@@ -2,7 +2,7 @@
 ghost use mathlib.Core.Path.{_≡_};
 ghost use Prim.Native.Nat.{_<_, _≤_};
 ghost use Rattle.coherence.specs.Slots.{place, slotAt, setSlot, holds, modified, ownerOf, sound, coldDirectory};
-ghost use Rattle.machine.specs.Directory.{rankOf, blockOr, misplacedIn, conflictOf, faultsOf, firstModified, released, claimedAtOnce};
+ghost use Rattle.machine.specs.Directory.{rankOf, blockOr, misplacedIn, conflictOf, faultsOf, firstModified, released, setColumn, claimedAtOnce};
 use coherence::Directory;
 use coherence::Entry;
 use coherence::Slot;
@@ -205,6 +205,19 @@ fn release(slot: Slot, block: u8, v: u8, u: u8) -> Slot
     }
 }
 
+// The four units' slots s become w, x, y and z.
+fn set_column(directory: Directory, s: usize, w: Slot, x: Slot, y: Slot, z: Slot) -> Directory
+    requires { ⌜ s < 16 ⌝ }
+    ensures { λ r. ⌜ r ≡ setColumn directory s w x y z ⌝ }
+{
+    let mut left = directory;
+    left.slots[s] = Entry { slot: w };
+    left.slots[16 + s] = Entry { slot: x };
+    left.slots[32 + s] = Entry { slot: y };
+    left.slots[48 + s] = Entry { slot: z };
+    left
+}
+
 // The directory once the unit claims the block. The four slots are read before any is written.
 pub(crate) fn claimed(directory: Directory, unit: u8, block: u8) -> Directory
     requires { ⌜ unit < 4 ⌝ }
@@ -224,14 +237,6 @@ pub(crate) fn claimed(directory: Directory, unit: u8, block: u8) -> Directory
     let x2 = release(xs, block, 1, unit);
     let y2 = release(ys, block, 2, unit);
     let z2 = release(zs, block, 3, unit);
-    let n = place_of(unit, block);
-    let mut left = directory;
-    left.slots[s] = Entry { slot: w2 };
-    left.slots[16 + s] = Entry { slot: x2 };
-    left.slots[32 + s] = Entry { slot: y2 };
-    left.slots[48 + s] = Entry { slot: z2 };
-    left.slots[n] = Entry {
-        slot: Slot::Modified(block),
-    };
-    left
+    let left = set_column(directory, s, w2, x2, y2, z2);
+    set_slot(left, place_of(unit, block), Slot::Modified(block))
 }

@@ -1,13 +1,12 @@
 -- `machine::peek` meets its contract.
 use borrow.Author.Needs.{needs}
-use mathlib.Core.Path.{sym}
-use mathlib.Core.Path.{_≡_, _∙_}
+use mathlib.Core.Path.{sym, _∙_}
 use native.Mathlib.Omega.{arith}
+use Prim.Native.Nat.{_<_, _≤_}
 use borrow.Author.Tests.{eq-eqb, ne-eqb, lt-ltb, le-ltb}
 use Rattle.coherence.specs.Peek.{peeked, peekFromCache, peekOffset, newest, newestBlock, fromCache}
-use Rattle.coherence.specs.Refusal.{peekRefusal}
 use Rattle.coherence.specs.Slots.{ownerOf}
-use Prim.Native.Nat.{_<_, _≤_}
+use Rattle.coherence.specs.Refusal.{peekRefusal}
 use Rattle.machine.proofs.Refusals.{peek-known}
 use Rattle.machine.proofs.peek.Statement.{statement}
 use Rattle.machine.proofs.peek.Tie as tie
@@ -52,14 +51,16 @@ returns-2 : tie.Need-returns-2
 unfolding peeked peekFromCache peekOffset newest newestBlock fromCache
 returns-2 c =
     let o = c .before .before .before .owner .ensures in
-    let h = rw o at (c .before .before .if2 .taken) in
-    rw (eq-eqb _ _ (sym (c .before .before .before .before .before .peek-refusal .ensures) ∙ c .before .before .before .before .if1 .left), lt-ltb _ _ h) (rw (c .before .place-of .ensures .0, o) at (c .block-of .ensures))
+    let a = c .before .before .before .before .before .before .before .before .args in
+    let h : ownerOf (a .directory) (a .block) < 4 = omega arith in
+    rw (eq-eqb _ _ (sym (c .before .before .before .before .before .peek-refusal .ensures) ∙ c .before .before .before .before .if1 .left), lt-ltb _ 4 h) (rw (c .before .place-of .ensures .0, o) at (c .block-of .ensures))
 
 returns-3 : tie.Need-returns-3
 unfolding peeked peekFromCache peekOffset newest newestBlock fromCache
 returns-3 c =
-    let h = rw (c .before .before .owner .ensures) at (c .before .if2 .left) in
-    rw (eq-eqb _ _ (sym (c .before .before .before .before .peek-refusal .ensures) ∙ c .before .before .before .if1 .left), le-ltb _ _ h) (c .block-of2 .ensures)
+    let a = c .before .before .before .before .before .before .before .args in
+    let h : 4 ≤ ownerOf (a .directory) (a .block) = omega arith in
+    rw (eq-eqb _ _ (sym (c .before .before .before .before .peek-refusal .ensures) ∙ c .before .before .before .if1 .left), le-ltb _ 4 h) (c .block-of2 .ensures)
 
 pub peek-spec : {M : Type 1} → statement M
 peek-spec =

@@ -1,5 +1,6 @@
 -- `machine::peek_refusal` meets its contract.
 use borrow.Author.Needs.{needs}
+use native.Mathlib.Omega.{arith}
 use mathlib.Core.Path.{_∙_, sym}
 use borrow.Author.Tests.{le-leb, lt-leb, not-true, not-false}
 use Rattle.coherence.specs.Refusal.{isBlock}
@@ -32,7 +33,7 @@ returns-3 c =
     let a = c .before .before .before .before .before .before .before .args in
     let p = sym (c .before .before .before .before .is-sized .ensures) ∙ not-false _ (c .before .before .before .if1 .left) in
     let q = sym (c .before .before .is-sound .ensures) ∙ not-false _ (c .before .if2 .left) in
-    rw (peek-tests (a .directory) (a .memory .now) (a .cache .now) (a .block), p, q, le-leb _ _ (c .if3 .taken))
+    rw (peek-tests (a .directory) (a .memory .now) (a .cache .now) (a .block), p, q, le-leb (a .block) 63 (omega arith))
 
 returns-4 : tie.Need-returns-4
 unfolding isBlock
@@ -40,7 +41,7 @@ returns-4 c =
     let a = c .before .before .before .before .before .before .before .args in
     let p = sym (c .before .before .before .before .is-sized .ensures) ∙ not-false _ (c .before .before .before .if1 .left) in
     let q = sym (c .before .before .is-sound .ensures) ∙ not-false _ (c .before .if2 .left) in
-    rw (peek-tests (a .directory) (a .memory .now) (a .cache .now) (a .block), p, q, lt-leb _ _ (c .if3 .left))
+    rw (peek-tests (a .directory) (a .memory .now) (a .cache .now) (a .block), p, q, lt-leb (a .block) 63 (omega arith))
 
 pub peek-refusal-spec : {M : Type 1} → statement M
 peek-refusal-spec =

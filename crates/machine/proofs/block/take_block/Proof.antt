@@ -1,11 +1,10 @@
 -- `machine::block::take_block` meets its contract.
 use borrow.Author.Needs.{needs}
-use Prim.Native.Nat.{_≤_, _-_, _*_}
+use Prim.Native.Nat.{_≤_, _-_, _*_, ℕ}
 use mathlib.Core.Path.{_≡_, _∙_, ap}
 use native.Mathlib.Omega.{arith}
 use Rattle.coherence.specs.Bytes.{blockAt}
 use Rattle.machine.proofs.Copies.{fresh-step, copied-all}
-use Prim.Native.Nat.{ℕ}
 use lib.ListN.{length, drop, replicate, length-set}
 use lib.Seq.{paste, paste-zero}
 use Rattle.machine.proofs.block.take_block.Statement.{statement}

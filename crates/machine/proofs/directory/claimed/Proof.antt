@@ -1,8 +1,8 @@
 -- `machine::directory::claimed` meets its contract.
 use borrow.Author.Needs.{needs}
+use mathlib.Core.Path.{_∙_}
 use native.Mathlib.Omega.{arith}
-use Prim.Native.Nat.{_%_}
-use Rattle.machine.proofs.Claims.{claimed-list}
+use Rattle.machine.proofs.Claims.{claimed-column}
 use Rattle.machine.proofs.directory.claimed.Statement.{statement}
 use Rattle.machine.proofs.directory.claimed.Tie as tie
 
@@ -54,52 +54,20 @@ release-requires-3 c κs = search needs
 release-requires-4 : tie.Need-release-requires-4
 release-requires-4 c κs = search needs
 
+set-column-requires : tie.Need-set-column-requires
+set-column-requires c κs = search needs
+
 place-of-requires : tie.Need-place-of-requires
 place-of-requires c κs = search needs
 
-mul-left : tie.Need-mul-left
-mul-left c = search needs
-
-element-set-from-left : tie.Need-element-set-from-left
-element-set-from-left c = search needs
-
-add-left : tie.Need-add-left
-add-left c = search needs
-
-mul-left-2 : tie.Need-mul-left-2
-mul-left-2 c = search needs
-
-element-set-from-left-2 : tie.Need-element-set-from-left-2
-element-set-from-left-2 c = search needs
-
-add-left-2 : tie.Need-add-left-2
-add-left-2 c = search needs
-
-mul-left-3 : tie.Need-mul-left-3
-mul-left-3 c = search needs
-
-element-set-from-left-3 : tie.Need-element-set-from-left-3
-element-set-from-left-3 c = search needs
-
-add-left-3 : tie.Need-add-left-3
-add-left-3 c = search needs
-
-mul-left-4 : tie.Need-mul-left-4
-mul-left-4 c = search needs
-
-element-set-from-left-4 : tie.Need-element-set-from-left-4
-element-set-from-left-4 c = search needs
-
-mul-t21 : tie.Need-mul-t21
-mul-t21 c = search needs
-
-element-set-from-left-5 : tie.Need-element-set-from-left-5
-element-set-from-left-5 c = search needs
+set-slot-requires : tie.Need-set-slot-requires
+set-slot-requires c κs = search needs
 
 returns : tie.Need-returns
 returns c =
-    let a = c .before .before .before .before .before .before .before .before .before .before .args in
-    claimed-list (a .directory) (a .unit) (a .block) (a .block % 16) _ _ _ _ _ (omega arith) (c .place-of .ensures .0) (c .before .before .before .before .release .ensures) (c .before .before .before .release2 .ensures) (c .before .before .release3 .ensures) (c .before .release4 .ensures)
+    rw (c .before .before .set-column .ensures, c .before .place-of .ensures .0) at (c .set-slot .ensures)
+    ∙ claimed-column _ _ _ _ _ _ _ _ (omega arith) (c .before .before .before .before .before .before .release .ensures)
+    (c .before .before .before .before .before .release2 .ensures) (c .before .before .before .before .release3 .ensures) (c .before .before .before .release4 .ensures)
 
 pub claimed-spec : {M : Type 1} → statement M
 claimed-spec =
@@ -121,18 +89,7 @@ claimed-spec =
     release-requires-2
     release-requires-3
     release-requires-4
+    set-column-requires
     place-of-requires
-    mul-left
-    element-set-from-left
-    add-left
-    mul-left-2
-    element-set-from-left-2
-    add-left-2
-    mul-left-3
-    element-set-from-left-3
-    add-left-3
-    mul-left-4
-    element-set-from-left-4
-    mul-t21
-    element-set-from-left-5
+    set-slot-requires
     returns)

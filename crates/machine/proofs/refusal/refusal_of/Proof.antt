@@ -1,5 +1,6 @@
 -- `machine::refusal::refusal_of` meets its contract.
 use borrow.Author.Needs.{needs}
+use native.Mathlib.Omega.{arith}
 use mathlib.Core.Path.{_∙_, sym}
 use borrow.Author.Tests.{le-leb, lt-leb, not-true, not-false}
 use Rattle.coherence.specs.Refusal.{isUnit}
@@ -32,7 +33,7 @@ returns-3 c =
     let a = c .before .before .before .before .before .before .before .args in
     let p = sym (c .before .before .before .before .is-sized .ensures) ∙ not-false _ (c .before .before .before .if1 .left) in
     let q = sym (c .before .before .is-sound .ensures) ∙ not-false _ (c .before .if2 .left) in
-    rw (call-tests (a .directory) (a .memory .now) (a .cache .now) (a .unit) (a .good), p, q, lt-leb _ _ (c .if3 .taken))
+    rw (call-tests (a .directory) (a .memory .now) (a .cache .now) (a .unit) (a .good), p, q, lt-leb (a .unit) 3 (omega arith))
 
 returns-4 : tie.Need-returns-4
 unfolding isUnit
@@ -40,7 +41,7 @@ returns-4 c =
     let a = c .before .before .before .before .before .before .before .before .args in
     let p = sym (c .before .before .before .before .before .is-sized .ensures) ∙ not-false _ (c .before .before .before .before .if1 .left) in
     let q = sym (c .before .before .before .is-sound .ensures) ∙ not-false _ (c .before .before .if2 .left) in
-    rw (call-tests (a .directory) (a .memory .now) (a .cache .now) (a .unit) (a .good), p, q, le-leb _ _ (c .before .if3 .left), c .if4 .taken)
+    rw (call-tests (a .directory) (a .memory .now) (a .cache .now) (a .unit) (a .good), p, q, le-leb (a .unit) 3 (omega arith), c .if4 .taken)
 
 returns-5 : tie.Need-returns-5
 unfolding isUnit
@@ -48,7 +49,7 @@ returns-5 c =
     let a = c .before .before .before .before .before .before .before .before .args in
     let p = sym (c .before .before .before .before .before .is-sized .ensures) ∙ not-false _ (c .before .before .before .before .if1 .left) in
     let q = sym (c .before .before .before .is-sound .ensures) ∙ not-false _ (c .before .before .if2 .left) in
-    rw (call-tests (a .directory) (a .memory .now) (a .cache .now) (a .unit) (a .good), p, q, le-leb _ _ (c .before .if3 .left), c .if4 .left)
+    rw (call-tests (a .directory) (a .memory .now) (a .cache .now) (a .unit) (a .good), p, q, le-leb (a .unit) 3 (omega arith), c .if4 .left)
 
 pub refusal-of-spec : {M : Type 1} → statement M
 refusal-of-spec =
