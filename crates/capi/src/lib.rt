@@ -1,0 +1,193 @@
+// The cache machine, the tape and the drill for programs in other languages: `include/trainer.h` declares these functions. Slices cross as
+// pointer and length, all else as numbers. Each function is total, and a refused call writes nothing but what its contract says.
+mod answer;
+mod call;
+mod entry;
+mod layout;
+mod place;
+
+use call::hand_over;
+use call::narrow;
+use entry::RecordFound;
+use entry::put_record;
+use entry::record_from;
+use layout::decode;
+use layout::encode;
+use order::NO_ROOM;
+use place::place_of;
+use tape::RecordRead;
+use tape::Written;
+ghost use mathlib.Core.Path.{_≡_};
+ghost use lib.ListN.{length};
+ghost use Rattle.coherence.specs.declared.Call.the-variants.{Load, Store, Flush};
+ghost use Rattle.capi.specs.Start.{startReturned, startCache, startDirectory};
+ghost use Rattle.capi.specs.Call.{narrowed, returned, directoryLeft, memoryLeft, cacheLeft, answerLeft};
+ghost use Rattle.capi.specs.Entry.{recordFrom, readReturned, numbersLeft, nextLeft, writeReturned, spaceLeft, writtenLeft};
+ghost use Rattle.text.specs.Space.{placed};
+ghost use Rattle.drill_text.specs.Drill.{drillText, drilledIn};
+ghost use Rattle.capi.specs.Drill.{drillWritten};
+ghost use Rattle.capi.specs.Place.{peekReturned, storeLeft, offsetLeft};
+
+// Starts cold, and writes the directory.
+#[no_mangle]
+pub extern "C" fn trainer_cold_start(memory: &[u8], cache: &mut [u8], directory: &mut [u8]) -> u32
+    ensures { λ r. ⌜ (r ≡ startReturned (now (memory .entry)) (now (cache .entry)) (now (directory .entry))) × (now (cache .exit) ≡ startCache (now (memory .entry)) (now (cache .entry)) (now (directory .entry))) × (now (directory .exit) ≡ startDirectory (now (directory .entry))) ⌝ }
+{
+    if directory.len() < 128 {
+        return NO_ROOM as u32;
+    }
+    let start = machine::cold_start(memory, cache);
+    let left = start.directory;
+    encode(left, directory);
+    start.refusal as u32
+}
+
+// Unit loads the word at address.
+#[no_mangle]
+pub extern "C" fn trainer_load(
+    directory: &mut [u8],
+    memory: &mut [u8],
+    cache: &mut [u8],
+    unit: u32,
+    address: u32,
+    answer: &mut [u32],
+) -> u32
+    ensures { λ r. ⌜ (r ≡ returned (now (directory .entry)) (now (memory .entry)) (now (cache .entry)) (now (answer .entry)) (Load (narrowed unit) address)) × (now (directory .exit) ≡ directoryLeft (now (directory .entry)) (now (memory .entry)) (now (cache .entry)) (now (answer .entry)) (Load (narrowed unit) address)) × (now (memory .exit) ≡ memoryLeft (now (directory .entry)) (now (memory .entry)) (now (cache .entry)) (now (answer .entry)) (Load (narrowed unit) address)) × (now (cache .exit) ≡ cacheLeft (now (directory .entry)) (now (memory .entry)) (now (cache .entry)) (now (answer .entry)) (Load (narrowed unit) address)) × (now (answer .exit) ≡ answerLeft (now (directory .entry)) (now (memory .entry)) (now (cache .entry)) (now (answer .entry)) (Load (narrowed unit) address)) ⌝ }
+{
+    if answer.len() < 18 {
+        return NO_ROOM as u32;
+    }
+    let d = decode(directory);
+    let a = machine::load(d, memory, cache, narrow(unit), address);
+    hand_over(a, directory, answer)
+}
+
+// Unit stores value at address.
+#[no_mangle]
+pub extern "C" fn trainer_store(
+    directory: &mut [u8],
+    memory: &mut [u8],
+    cache: &mut [u8],
+    unit: u32,
+    address: u32,
+    value: u32,
+    answer: &mut [u32],
+) -> u32
+    ensures { λ r. ⌜ (r ≡ returned (now (directory .entry)) (now (memory .entry)) (now (cache .entry)) (now (answer .entry)) (Store (narrowed unit) address value)) × (now (directory .exit) ≡ directoryLeft (now (directory .entry)) (now (memory .entry)) (now (cache .entry)) (now (answer .entry)) (Store (narrowed unit) address value)) × (now (memory .exit) ≡ memoryLeft (now (directory .entry)) (now (memory .entry)) (now (cache .entry)) (now (answer .entry)) (Store (narrowed unit) address value)) × (now (cache .exit) ≡ cacheLeft (now (directory .entry)) (now (memory .entry)) (now (cache .entry)) (now (answer .entry)) (Store (narrowed unit) address value)) × (now (answer .exit) ≡ answerLeft (now (directory .entry)) (now (memory .entry)) (now (cache .entry)) (now (answer .entry)) (Store (narrowed unit) address value)) ⌝ }
+{
+    if answer.len() < 18 {
+        return NO_ROOM as u32;
+    }
+    let d = decode(directory);
+    let a = machine::store(d, memory, cache, narrow(unit), address, value);
+    hand_over(a, directory, answer)
+}
+
+// Unit flushes block.
+#[no_mangle]
+pub extern "C" fn trainer_flush(
+    directory: &mut [u8],
+    memory: &mut [u8],
+    cache: &[u8],
+    unit: u32,
+    block: u32,
+    answer: &mut [u32],
+) -> u32
+    ensures { λ r. ⌜ (r ≡ returned (now (directory .entry)) (now (memory .entry)) (now (cache .entry)) (now (answer .entry)) (Flush (narrowed unit) (narrowed block))) × (now (directory .exit) ≡ directoryLeft (now (directory .entry)) (now (memory .entry)) (now (cache .entry)) (now (answer .entry)) (Flush (narrowed unit) (narrowed block))) × (now (memory .exit) ≡ memoryLeft (now (directory .entry)) (now (memory .entry)) (now (cache .entry)) (now (answer .entry)) (Flush (narrowed unit) (narrowed block))) × (now (answer .exit) ≡ answerLeft (now (directory .entry)) (now (memory .entry)) (now (cache .entry)) (now (answer .entry)) (Flush (narrowed unit) (narrowed block))) ⌝ }
+{
+    if answer.len() < 18 {
+        return NO_ROOM as u32;
+    }
+    let d = decode(directory);
+    let a = machine::flush(d, memory, cache, narrow(unit), narrow(block));
+    hand_over(a, directory, answer)
+}
+
+// Which store has the newest bytes of block, and where.
+#[no_mangle]
+pub extern "C" fn trainer_peek(
+    directory: &[u8],
+    memory: &[u8],
+    cache: &[u8],
+    block: u32,
+    store: &mut u32,
+    offset: &mut u32,
+) -> u32
+    ensures { λ r. ⌜ (r ≡ peekReturned (now (directory .entry)) (now (memory .entry)) (now (cache .entry)) block) × (now (store .exit) ≡ storeLeft (now (directory .entry)) (now (memory .entry)) (now (cache .entry)) block (now (store .entry))) × (now (offset .exit) ≡ offsetLeft (now (directory .entry)) (now (memory .entry)) (now (cache .entry)) block (now (offset .entry))) ⌝ }
+{
+    let d = decode(directory);
+    let b = narrow(block);
+    let refusal = machine::peek_refusal(d, memory, cache, b);
+    if refusal != 0 {
+        return refusal as u32;
+    }
+    let newest = place_of(d, b);
+    *store = newest.store;
+    *offset = newest.offset;
+    0
+}
+
+// Reads the record at a place of the tape.
+#[no_mangle]
+pub extern "C" fn trainer_read_record(
+    tape: &[u8],
+    place: usize,
+    next: &mut usize,
+    numbers: &mut [u64],
+) -> u32
+    ensures { λ r. ⌜ (r ≡ readReturned (now (tape .entry)) place (now (numbers .entry))) × (now (next .exit) ≡ nextLeft (now (tape .entry)) place (now (numbers .entry)) (now (next .entry))) × (now (numbers .exit) ≡ numbersLeft (now (tape .entry)) place (now (numbers .entry))) ⌝ }
+{
+    if numbers.len() < 7 {
+        return NO_ROOM as u32;
+    }
+    match tape::read_record(tape, place) {
+        RecordRead::Record(r, after) => {
+            put_record(r, numbers);
+            *next = after;
+            0
+        }
+        RecordRead::Finished => {
+            *next = place;
+            0
+        }
+        RecordRead::Refused(number, at) => {
+            *next = at;
+            number as u32
+        }
+    }
+}
+
+// Writes the record that seven numbers name.
+#[no_mangle]
+pub extern "C" fn trainer_write_record(
+    numbers: &[u64],
+    space: &mut [u8],
+    written: &mut usize,
+) -> u32
+    ensures { λ r. ⌜ (r ≡ writeReturned (recordFrom (now (numbers .entry))) (now (space .entry))) × (now (space .exit) ≡ spaceLeft (recordFrom (now (numbers .entry))) (now (space .entry))) × (now (written .exit) ≡ writtenLeft (recordFrom (now (numbers .entry))) (now (space .entry)) (now (written .entry))) ⌝ }
+{
+    match record_from(numbers) {
+        RecordFound::Known(r) => match tape::write_record(r, space) {
+            Written::Bytes(count) => {
+                *written = count;
+                0
+            }
+            Written::Refused(number) => number as u32,
+        },
+        RecordFound::Refused(number) => number as u32,
+    }
+}
+
+// What the drill program prints for a tape.
+#[no_mangle]
+pub extern "C" fn trainer_drill(tape: &[u8], text: &mut [u8], written: &mut usize) -> u32
+    ensures { λ r. ⌜ (r ≡ drilledIn (drillText (now (tape .entry))) (length (now (text .entry))) .refusal) × (now (text .exit) ≡ placed (now (text .entry)) 0 (drillText (now (tape .entry)))) × (now (written .exit) ≡ drillWritten (now (tape .entry)) (now (text .entry)) (now (written .entry))) ⌝ }
+{
+    let done = drill_text::drill(tape, text);
+    let refusal = done.refusal;
+    if refusal != 0 {
+        return refusal as u32;
+    }
+    *written = done.count;
+    0
+}

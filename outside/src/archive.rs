@@ -1,0 +1,129 @@
+//! The proved library as C sees it (include/trainer.h), with slices in the place of pointers and lengths.
+
+/// Numbers in the answer of a call: value, count of orders, and four orders of unit, command, block, retried.
+pub const ANSWER_NUMBERS: usize = 18;
+/// Numbers of a record: its kind and six fields, 0 where it has fewer.
+pub const RECORD_NUMBERS: usize = 7;
+
+mod foreign {
+    extern "C" {
+        pub fn trainer_cold_start(
+            memory: *const u8, memory_size: usize,
+            cache: *mut u8, cache_size: usize,
+            directory: *mut u8, directory_size: usize,
+        ) -> u32;
+        pub fn trainer_load(
+            directory: *mut u8, directory_size: usize,
+            memory: *mut u8, memory_size: usize,
+            cache: *mut u8, cache_size: usize,
+            unit: u32, address: u32,
+            answer: *mut u32, answer_size: usize,
+        ) -> u32;
+        pub fn trainer_store(
+            directory: *mut u8, directory_size: usize,
+            memory: *mut u8, memory_size: usize,
+            cache: *mut u8, cache_size: usize,
+            unit: u32, address: u32, value: u32,
+            answer: *mut u32, answer_size: usize,
+        ) -> u32;
+        pub fn trainer_flush(
+            directory: *mut u8, directory_size: usize,
+            memory: *mut u8, memory_size: usize,
+            cache: *mut u8, cache_size: usize,
+            unit: u32, block: u32,
+            answer: *mut u32, answer_size: usize,
+        ) -> u32;
+        pub fn trainer_peek(
+            directory: *const u8, directory_size: usize,
+            memory: *const u8, memory_size: usize,
+            cache: *const u8, cache_size: usize,
+            block: u32,
+            store: *mut u32, offset: *mut u32,
+        ) -> u32;
+        pub fn trainer_read_record(
+            tape: *const u8, tape_size: usize,
+            place: usize, next: *mut usize,
+            numbers: *mut u64, numbers_size: usize,
+        ) -> u32;
+        pub fn trainer_write_record(
+            numbers: *const u64, numbers_size: usize,
+            space: *mut u8, space_size: usize,
+            written: *mut usize,
+        ) -> u32;
+        pub fn trainer_drill(
+            tape: *const u8, tape_size: usize,
+            text: *mut u8, text_size: usize,
+            written: *mut usize,
+        ) -> u32;
+    }
+}
+
+pub fn cold_start(memory: &[u8], cache: &mut [u8], directory: &mut [u8]) -> u32 {
+    unsafe {
+        foreign::trainer_cold_start(
+            memory.as_ptr(), memory.len(),
+            cache.as_mut_ptr(), cache.len(),
+            directory.as_mut_ptr(), directory.len(),
+        )
+    }
+}
+
+pub fn load(directory: &mut [u8], memory: &mut [u8], cache: &mut [u8], unit: u32, address: u32, answer: &mut [u32]) -> u32 {
+    unsafe {
+        foreign::trainer_load(
+            directory.as_mut_ptr(), directory.len(),
+            memory.as_mut_ptr(), memory.len(),
+            cache.as_mut_ptr(), cache.len(),
+            unit, address,
+            answer.as_mut_ptr(), answer.len(),
+        )
+    }
+}
+
+pub fn store(directory: &mut [u8], memory: &mut [u8], cache: &mut [u8], unit: u32, address: u32, value: u32, answer: &mut [u32]) -> u32 {
+    unsafe {
+        foreign::trainer_store(
+            directory.as_mut_ptr(), directory.len(),
+            memory.as_mut_ptr(), memory.len(),
+            cache.as_mut_ptr(), cache.len(),
+            unit, address, value,
+            answer.as_mut_ptr(), answer.len(),
+        )
+    }
+}
+
+pub fn flush(directory: &mut [u8], memory: &mut [u8], cache: &mut [u8], unit: u32, block: u32, answer: &mut [u32]) -> u32 {
+    unsafe {
+        foreign::trainer_flush(
+            directory.as_mut_ptr(), directory.len(),
+            memory.as_mut_ptr(), memory.len(),
+            cache.as_mut_ptr(), cache.len(),
+            unit, block,
+            answer.as_mut_ptr(), answer.len(),
+        )
+    }
+}
+
+pub fn peek(directory: &[u8], memory: &[u8], cache: &[u8], block: u32, store: &mut u32, offset: &mut u32) -> u32 {
+    unsafe {
+        foreign::trainer_peek(
+            directory.as_ptr(), directory.len(),
+            memory.as_ptr(), memory.len(),
+            cache.as_ptr(), cache.len(),
+            block,
+            store, offset,
+        )
+    }
+}
+
+pub fn read_record(tape: &[u8], place: usize, next: &mut usize, numbers: &mut [u64]) -> u32 {
+    unsafe { foreign::trainer_read_record(tape.as_ptr(), tape.len(), place, next, numbers.as_mut_ptr(), numbers.len()) }
+}
+
+pub fn write_record(numbers: &[u64], space: &mut [u8], written: &mut usize) -> u32 {
+    unsafe { foreign::trainer_write_record(numbers.as_ptr(), numbers.len(), space.as_mut_ptr(), space.len(), written) }
+}
+
+pub fn drill(tape: &[u8], text: &mut [u8], written: &mut usize) -> u32 {
+    unsafe { foreign::trainer_drill(tape.as_ptr(), tape.len(), text.as_mut_ptr(), text.len(), written) }
+}

@@ -1,0 +1,288 @@
+//! The benchmark: each call of the proved library beside plain Rust with the same checks, on the same inputs, in one run.
+//! "Rust, same work" decodes and encodes the directory as the proved side does; "Rust, in place" works on its bytes.
+//! Each figure is the least of many rounds, in nanoseconds for one operation; the two sides take turns.
+mod packed;
+mod records;
+mod typed;
+
+use outside::archive;
+use outside::random::Random;
+use outside::tape;
+use std::hint::black_box;
+use std::time::Instant;
+
+const ROUNDS: usize = 41;
+
+/// Directory, stores and the answer's space, as a caller holds them.
+#[derive(Clone, PartialEq, Debug)]
+struct Lent {
+    directory: [u8; 128],
+    memory: [u8; 2048],
+    cache: [u8; 2048],
+    answer: [u32; 18],
+}
+
+impl Lent {
+    fn cold() -> Lent {
+        Lent { directory: [0; 128], memory: [7; 2048], cache: [0; 2048], answer: [0; 18] }
+    }
+}
+
+#[derive(Clone, Copy)]
+enum Call {
+    Load(u32, u32),
+    Store(u32, u32, u32),
+    Flush(u32, u32),
+    Peek(u32),
+}
+
+#[derive(Clone, Copy)]
+enum Side {
+    Proved,
+    Typed,
+    Packed,
+}
+
+/// The list of calls once; gives a sum that depends on every answer.
+#[inline(never)]
+fn run(side: Side, lent: &mut Lent, calls: &[Call]) -> u64 {
+    let Lent { directory: d, memory: m, cache: k, answer: a } = lent;
+    let (d, m, k, a) = (&mut d[..], &mut m[..], &mut k[..], &mut a[..]);
+    let mut sum = 0u64;
+    for &call in calls {
+        let (mut store, mut offset) = (0, 0);
+        let code = match (side, call) {
+            (Side::Proved, Call::Load(u, x)) => archive::load(d, m, k, u, x, a),
+            (Side::Proved, Call::Store(u, x, v)) => archive::store(d, m, k, u, x, v, a),
+            (Side::Proved, Call::Flush(u, b)) => archive::flush(d, m, k, u, b, a),
+            (Side::Proved, Call::Peek(b)) => archive::peek(d, m, k, b, &mut store, &mut offset),
+            (Side::Typed, Call::Load(u, x)) => typed::trainer_load(d, m, k, u, x, a),
+            (Side::Typed, Call::Store(u, x, v)) => typed::trainer_store(d, m, k, u, x, v, a),
+            (Side::Typed, Call::Flush(u, b)) => typed::trainer_flush(d, m, k, u, b, a),
+            (Side::Typed, Call::Peek(b)) => typed::trainer_peek(d, m, k, b, &mut store, &mut offset),
+            (Side::Packed, Call::Load(u, x)) => packed::trainer_load(d, m, k, u, x, a),
+            (Side::Packed, Call::Store(u, x, v)) => packed::trainer_store(d, m, k, u, x, v, a),
+            (Side::Packed, Call::Flush(u, b)) => packed::trainer_flush(d, m, k, u, b, a),
+            (Side::Packed, Call::Peek(b)) => packed::trainer_peek(d, m, k, b, &mut store, &mut offset),
+        };
+        sum += (code + a[0] + 8 * a[1] + store + offset) as u64;
+    }
+    sum
+}
+
+/// The least time of `work` over the rounds, for each side, in nanoseconds for one of `count` operations.
+fn measure<const N: usize>(count: usize, mut work: impl FnMut(usize) -> u64) -> [f64; N] {
+    let mut least = [f64::MAX; N];
+    let mut sums = [0; N];
+    for _ in 0..ROUNDS {
+        for side in 0..N {
+            let start = Instant::now();
+            sums[side] = black_box(work(side));
+            least[side] = least[side].min(start.elapsed().as_nanos() as f64 / count as f64);
+        }
+    }
+    assert!(sums.iter().all(|&sum| sum == sums[0]), "the sides differ: {sums:?}");
+    least
+}
+
+fn row(name: &str, proved: f64, same: f64, place: Option<f64>) {
+    let place = place.map_or("|  |  |".to_string(), |p| format!("| {p:.1} | {:.2} |", proved / p));
+    println!("| {name} | {proved:.1} | {same:.1} | {:.2} {place}", proved / same);
+}
+
+fn calls_row(name: &str, prepare: &[Call], calls: &[Call]) {
+    let repeat = 40_000 / calls.len();
+    let sides = [Side::Proved, Side::Typed, Side::Packed];
+    let mut state = sides.map(|side| {
+        let mut lent = Lent::cold();
+        run(side, &mut lent, prepare);
+        lent
+    });
+    let [proved, same, place] = measure::<3>(repeat * calls.len(), |n| (0..repeat).map(|_| run(sides[n], &mut state[n], black_box(calls))).sum());
+    assert!(state[0] == state[1] && state[1] == state[2], "the sides left different states");
+    row(name, proved, same, Some(place));
+}
+
+fn random_records(random: &mut Random, count: usize) -> Vec<[u64; 7]> {
+    (0..count)
+        .map(|_| {
+            let wide = |random: &mut Random| (random.next() >> random.below(32)) as u64;
+            let r = |random: &mut Random, n: u32| random.below(n) as u64;
+            let from = r(random, 8);
+            match random.below(7) {
+                0 => [0, r(random, 4), 4 * r(random, 512), 0, 0, 0, 0],
+                1 => [1, r(random, 4), 4 * r(random, 512), wide(random), 0, 0, 0],
+                2 => [2, r(random, 4), r(random, 64), 0, 0, 0, 0],
+                3 => [3, r(random, 4), r(random, 2), r(random, 64), r(random, 2), 0, 0],
+                4 => [4, from, (from + 1 + r(random, 7)) % 8, r(random, 256), r(random, 256), 0, 0],
+                5 => [5, from, (from + 1 + r(random, 7)) % 8, r(random, 256), r(random, 2), wide(random), r(random, 8)],
+                _ => [6, r(random, 4), wide(random), 0, 0, 0, 0],
+            }
+        })
+        .collect()
+}
+
+fn bytes_of(records: &[[u64; 7]]) -> Vec<u8> {
+    let mut tape = Vec::new();
+    for n in records {
+        let count = tape::field_count(n[0] as u32).expect("a kind of the table");
+        let record = tape::Record { kind: n[0] as u32, fields: n[1..=count].iter().map(|&f| f as u32).collect() };
+        tape.extend(tape::write(&record, 40).expect("a record in its ranges"));
+    }
+    tape
+}
+
+fn read_all(tape: &[u8], read: impl Fn(&[u8], usize, &mut usize, &mut [u64]) -> u32) -> u64 {
+    let (mut place, mut sum, mut numbers) = (0, 0u64, [0u64; 7]);
+    while place < tape.len() {
+        let mut next = 0;
+        let code = read(tape, place, &mut next, &mut numbers);
+        assert_eq!(code, 0);
+        sum = sum.wrapping_add(numbers.iter().sum::<u64>() + next as u64);
+        place = next;
+    }
+    sum
+}
+
+fn write_all(records: &[[u64; 7]], write: impl Fn(&[u64], &mut [u8], &mut usize) -> u32) -> u64 {
+    let (mut sum, mut space) = (0u64, [0u8; 40]);
+    for n in records {
+        let mut count = 0;
+        let code = write(n, &mut space, &mut count);
+        sum += (code as usize + count + space[count - 1] as usize) as u64;
+    }
+    sum
+}
+
+fn tape_rows() {
+    let mut random = Random::new(77);
+    let records = random_records(&mut random, 9_000);
+    let tape = bytes_of(&records);
+    let [proved, rust] = measure::<2>(records.len(), |n| {
+        let tape = black_box(&tape[..]);
+        if n == 0 { read_all(tape, archive::read_record) } else { read_all(tape, records::trainer_read_record) }
+    });
+    row("read_record", proved, rust, None);
+    let [proved, rust] = measure::<2>(records.len(), |n| {
+        let records = black_box(&records[..]);
+        if n == 0 { write_all(records, archive::write_record) } else { write_all(records, records::trainer_write_record) }
+    });
+    row("write_record", proved, rust, None);
+    let mut full: Vec<[u64; 7]> = Vec::new();
+    let mut tape = Vec::new();
+    for n in random_records(&mut random, 30_000) {
+        let more = bytes_of(&[n]);
+        if tape.len() + more.len() <= 65_536 {
+            tape.extend(more);
+            full.push(n);
+        }
+    }
+    let mut text = vec![0u8; 1 << 20];
+    let [proved, rust] = measure::<2>(full.len(), |n| {
+        let mut count = 0;
+        let code = if n == 0 { archive::drill(black_box(&tape), &mut text, &mut count) } else { records::trainer_drill(black_box(&tape), &mut text, &mut count) };
+        code as u64 + text[..count].iter().map(|&b| b as u64).sum::<u64>() + count as u64
+    });
+    row(&format!("drill of {} bytes, for each of its {} records", tape.len(), full.len()), proved, rust, None);
+}
+
+/// The loop of the program `mix` in plain Rust: five million loads and stores with their tests, and no boundary around them.
+fn mix(load: impl Fn(u32, u32) -> u32, store: impl Fn(u32, u32, u32)) -> u32 {
+    let (mut sum, mut x) = (0u32, 12345u32);
+    for _ in 0..5_000_000 {
+        x = (x % 65536) * 60000 + x / 65536 + 1;
+        let (unit, address) = (x / 7 % 4, x / 32 % 512 * 4);
+        let value = if x / 65536 % 8 < 4 {
+            load(unit, address)
+        } else {
+            store(unit, address, x);
+            0
+        };
+        sum = sum % 65536 + value % 65536;
+    }
+    sum
+}
+
+/// Times the built program `mix`, whose path is the argument, beside the same loop over the two kinds of Rust.
+fn mix_row(program: &str) {
+    use std::cell::RefCell;
+    let mut printed = String::new();
+    let [proved, same, place] = {
+        let mut least = [f64::MAX; 3];
+        let mut sums = [0u32; 3];
+        for _ in 0..7 {
+            for (side, least) in least.iter_mut().enumerate() {
+                let start = Instant::now();
+                sums[side] = match side {
+                    0 => {
+                        let output = std::process::Command::new(program).output().expect("the program mix runs");
+                        printed = String::from_utf8_lossy(&output.stdout).trim().to_string();
+                        printed.parse().expect("mix prints a number")
+                    }
+                    1 => {
+                        let state = RefCell::new(([typed::Slot::Invalid; 64], [0u8; 2048], [0u8; 2048]));
+                        mix(
+                            |u, a| {
+                                let (d, m, k) = &mut *state.borrow_mut();
+                                typed::tested_load(d, m, k, u, a).value
+                            },
+                            |u, a, v| {
+                                let (d, m, k) = &mut *state.borrow_mut();
+                                typed::tested_store(d, m, k, u, a, v);
+                            },
+                        )
+                    }
+                    _ => {
+                        let state = RefCell::new(([0u8; 128], [0u8; 2048], [0u8; 2048]));
+                        mix(
+                            |u, a| {
+                                let (d, m, k) = &mut *state.borrow_mut();
+                                packed::tested_load(d, m, k, u, a).value
+                            },
+                            |u, a, v| {
+                                let (d, m, k) = &mut *state.borrow_mut();
+                                packed::tested_store(d, m, k, u, a, v);
+                            },
+                        )
+                    }
+                };
+                *least = least.min(start.elapsed().as_nanos() as f64 / 5e6);
+            }
+        }
+        assert!(sums.iter().all(|&sum| sum == sums[0]), "the sides differ: {sums:?}");
+        least
+    };
+    row(&format!("the program `mix` (sum {printed}), for each call"), proved, same, Some(place));
+}
+
+fn main() {
+    println!("| Operation | proved, ns | Rust, same work, ns | ratio | Rust, in place, ns | ratio |");
+    println!("|---|---|---|---|---|---|");
+    let held: Vec<Call> = (0..16).map(|s| Call::Load(s % 4, 32 * s + 4 * (s % 8))).collect();
+    calls_row("load, held", &held, &held);
+    let misses: Vec<Call> = (0..64).map(|n| Call::Load(n % 4, 32 * ((17 * n) % 64) + 4)).collect();
+    calls_row("load, not held", &[], &misses);
+    let own: Vec<Call> = (0..16).map(|s| Call::Store(s % 4, 32 * s + 4 * (s % 8), s)).collect();
+    calls_row("store, held EM", &own, &own);
+    let turns: Vec<Call> = (0..64).map(|n| Call::Store((n / 16) % 4, 32 * (n % 16), n)).collect();
+    calls_row("store, EM in another unit", &own, &turns);
+    let flushes: Vec<Call> = (0..64).map(|b| Call::Flush(b % 4, b)).collect();
+    calls_row("flush, not held", &own, &flushes);
+    let both: Vec<Call> = (0..64).flat_map(|b| [Call::Store(b % 4, 32 * b, b), Call::Flush(b % 4, b)]).collect();
+    calls_row("store and flush in turn", &[], &both);
+    let peeks: Vec<Call> = (0..64).map(Call::Peek).collect();
+    calls_row("peek", &own, &peeks);
+    let mut random = Random::new(5);
+    let mix: Vec<Call> = (0..4096)
+        .map(|_| {
+            let (u, x) = (random.below(4), 4 * random.below(512));
+            if random.one_in(2) { Call::Load(u, x) } else { Call::Store(u, x, random.next()) }
+        })
+        .collect();
+    calls_row("random loads and stores", &[], &mix);
+    tape_rows();
+    match std::env::args().nth(1) {
+        Some(program) => mix_row(&program),
+        None => println!("(give the built program mix as the argument to time it too)"),
+    }
+}

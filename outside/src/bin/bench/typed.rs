@@ -1,0 +1,287 @@
+//! Plain Rust with the proved library's types: the directory's bytes become slots of an enum before a call and bytes again after it.
+//! The test of the directory is the branch-free one, which the compiler vectorises.
+
+#[derive(Clone, Copy)]
+#[repr(u8)]
+pub enum Slot {
+    Invalid,
+    Shared(u8),
+    Modified(u8),
+}
+use Slot::*;
+
+#[derive(Clone, Copy)]
+pub struct Order {
+    pub unit: u8,
+    pub command: u8,
+    pub block: u8,
+    pub retried: bool,
+}
+
+pub struct Answer {
+    pub refusal: u32,
+    pub value: u32,
+    pub count: usize,
+    pub orders: [Order; 4],
+}
+
+impl Answer {
+    fn new() -> Answer {
+        Answer { refusal: 0, value: 0, count: 0, orders: [Order { unit: 0, command: 0, block: 0, retried: false }; 4] }
+    }
+
+    fn refused(number: u32) -> Answer {
+        Answer { refusal: number, ..Answer::new() }
+    }
+
+    fn push(&mut self, unit: usize, command: u8, block: u8, retried: bool) {
+        self.orders[self.count] = Order { unit: unit as u8, command, block, retried };
+        self.count += 1;
+    }
+}
+
+fn rank(slot: Slot) -> u16 {
+    match slot {
+        Invalid => 0,
+        Shared(_) => 1,
+        Modified(_) => 2,
+    }
+}
+
+fn seat(slot: Slot, s: u16) -> u16 {
+    match slot {
+        Invalid => s,
+        Shared(b) | Modified(b) => b as u16,
+    }
+}
+
+pub fn misfit(b: u16, s: u16) -> u16 {
+    (b >= 64 || b % 16 != s) as u16
+}
+
+pub fn clash(b: u16, t: u16, c: u16, v: u16) -> u16 {
+    (b == c && t + v >= 3) as u16
+}
+
+fn sound(d: &[Slot; 64]) -> bool {
+    let mut faults = 0u16;
+    for s in 0..16 {
+        let k = s as u16;
+        let (w, x, y, z) = (d[s], d[16 + s], d[32 + s], d[48 + s]);
+        let (bw, bx, by, bz) = (seat(w, k), seat(x, k), seat(y, k), seat(z, k));
+        let (rw, rx, ry, rz) = (rank(w), rank(x), rank(y), rank(z));
+        faults += misfit(bw, k) + misfit(bx, k) + misfit(by, k) + misfit(bz, k);
+        faults += clash(bw, rw, bx, rx) + clash(bw, rw, by, ry) + clash(bw, rw, bz, rz);
+        faults += clash(bx, rx, by, ry) + clash(bx, rx, bz, rz) + clash(by, ry, bz, rz);
+    }
+    faults == 0
+}
+
+fn holds(d: &[Slot; 64], u: usize, b: u8) -> bool {
+    matches!(d[16 * u + b as usize % 16], Shared(c) | Modified(c) if c == b)
+}
+
+fn modified(d: &[Slot; 64], u: usize, b: u8) -> bool {
+    matches!(d[16 * u + b as usize % 16], Modified(c) if c == b)
+}
+
+/// The number of refusal of a load or a store: tests 1, 2, 3, 4.
+fn refusal(d: &[Slot; 64], memory: &[u8], cache: &[u8], unit: u32, good: bool) -> u32 {
+    if memory.len() != 2048 || cache.len() != 2048 {
+        1
+    } else if !sound(d) {
+        2
+    } else if unit > 3 {
+        3
+    } else if !good {
+        4
+    } else {
+        0
+    }
+}
+
+fn copyback(memory: &mut [u8], cache: &[u8], u: usize, b: u8, a: &mut Answer) {
+    let (from, to) = (512 * u + 32 * (b as usize % 16), 32 * b as usize);
+    memory[to..to + 32].copy_from_slice(&cache[from..from + 32]);
+    a.push(u, 3, b, false);
+}
+
+fn fetch(d: &mut [Slot; 64], memory: &mut [u8], cache: &mut [u8], u: usize, b: u8, command: u8, a: &mut Answer) {
+    let s = b as usize % 16;
+    if let Modified(old) = d[16 * u + s] {
+        copyback(memory, cache, u, old, a);
+    }
+    d[16 * u + s] = Invalid;
+    for v in 0..4 {
+        if v != u && modified(d, v, b) {
+            a.push(u, command, b, true);
+            copyback(memory, cache, v, b, a);
+            d[16 * v + s] = Shared(b);
+            break;
+        }
+    }
+    a.push(u, command, b, false);
+    let (from, to) = (32 * b as usize, 512 * u + 32 * s);
+    cache[to..to + 32].copy_from_slice(&memory[from..from + 32]);
+    d[16 * u + s] = Shared(b);
+}
+
+pub fn load(d: &mut [Slot; 64], memory: &mut [u8], cache: &mut [u8], unit: u32, address: u32) -> Answer {
+    let number = refusal(d, memory, cache, unit, address % 4 == 0 && address <= 2044);
+    if number != 0 {
+        return Answer::refused(number);
+    }
+    let mut a = Answer::new();
+    let (u, b) = (unit as usize, (address / 32) as u8);
+    if !holds(d, u, b) {
+        fetch(d, memory, cache, u, b, 0, &mut a);
+    }
+    let at = 512 * u + 32 * (b as usize % 16) + address as usize % 32;
+    a.value = u32::from_be_bytes(cache[at..at + 4].try_into().expect("four bytes"));
+    a
+}
+
+pub fn store(d: &mut [Slot; 64], memory: &mut [u8], cache: &mut [u8], unit: u32, address: u32, value: u32) -> Answer {
+    let number = refusal(d, memory, cache, unit, address % 4 == 0 && address <= 2044);
+    if number != 0 {
+        return Answer::refused(number);
+    }
+    let mut a = Answer::new();
+    let (u, b) = (unit as usize, (address / 32) as u8);
+    let s = b as usize % 16;
+    if !modified(d, u, b) {
+        if holds(d, u, b) {
+            a.push(u, 2, b, false);
+        } else {
+            fetch(d, memory, cache, u, b, 1, &mut a);
+        }
+        for v in 0..4 {
+            if v != u && holds(d, v, b) {
+                d[16 * v + s] = Invalid;
+            }
+        }
+        d[16 * u + s] = Modified(b);
+    }
+    let at = 512 * u + 32 * s + address as usize % 32;
+    cache[at..at + 4].copy_from_slice(&value.to_be_bytes());
+    a
+}
+
+pub fn flush(d: &mut [Slot; 64], memory: &mut [u8], cache: &[u8], unit: u32, block: u32) -> Answer {
+    let number = refusal(d, memory, cache, unit, block <= 63);
+    if number != 0 {
+        return Answer::refused(number);
+    }
+    let mut a = Answer::new();
+    let (u, b) = (unit as usize, block as u8);
+    if holds(d, u, b) {
+        if modified(d, u, b) {
+            copyback(memory, cache, u, b, &mut a);
+        }
+        d[16 * u + b as usize % 16] = Invalid;
+    }
+    a
+}
+
+/// The machine's call with no boundary around it.
+#[inline(never)]
+pub fn tested_load(d: &mut [Slot; 64], memory: &mut [u8], cache: &mut [u8], unit: u32, address: u32) -> Answer {
+    load(d, memory, cache, unit, address)
+}
+
+#[inline(never)]
+pub fn tested_store(d: &mut [Slot; 64], memory: &mut [u8], cache: &mut [u8], unit: u32, address: u32, value: u32) -> Answer {
+    store(d, memory, cache, unit, address, value)
+}
+
+fn decode(bytes: &[u8]) -> [Slot; 64] {
+    let mut slots = [Shared(255); 64];
+    if let Ok(bytes) = <&[u8; 128]>::try_from(bytes) {
+        for n in 0..64 {
+            // The block first, and then a choice of constants: the compiler makes this loop free of branches.
+            let (state, block) = (bytes[2 * n], bytes[2 * n + 1]);
+            let b = if state == 1 || state == 2 { block } else { 255 };
+            slots[n] = if state == 2 {
+                Modified(b)
+            } else if state == 0 && block == 0 {
+                Invalid
+            } else {
+                Shared(b)
+            };
+        }
+    }
+    slots
+}
+
+fn encode(d: &[Slot; 64], bytes: &mut [u8]) {
+    let bytes: &mut [u8; 128] = bytes.try_into().expect("a sound directory has 128 bytes");
+    for n in 0..64 {
+        let (state, block) = match d[n] {
+            Invalid => (0, 0),
+            Shared(b) => (1, b),
+            Modified(b) => (2, b),
+        };
+        bytes[2 * n] = state;
+        bytes[2 * n + 1] = block;
+    }
+}
+
+pub fn hand_over(a: &Answer, answer: &mut [u32]) {
+    answer[0] = a.value;
+    answer[1] = a.count as u32;
+    for (o, place) in a.orders.iter().zip(answer[2..18].chunks_exact_mut(4)) {
+        place.copy_from_slice(&[o.unit as u32, o.command as u32, o.block as u32, o.retried as u32]);
+    }
+}
+
+fn finish(d: &[Slot; 64], a: &Answer, directory: &mut [u8], answer: &mut [u32]) -> u32 {
+    if a.refusal == 0 {
+        encode(d, directory);
+        hand_over(a, answer);
+    }
+    a.refusal
+}
+
+#[inline(never)]
+pub fn trainer_load(directory: &mut [u8], memory: &mut [u8], cache: &mut [u8], unit: u32, address: u32, answer: &mut [u32]) -> u32 {
+    if answer.len() < 18 {
+        return 9;
+    }
+    let mut d = decode(directory);
+    let a = load(&mut d, memory, cache, unit, address);
+    finish(&d, &a, directory, answer)
+}
+
+#[inline(never)]
+pub fn trainer_store(directory: &mut [u8], memory: &mut [u8], cache: &mut [u8], unit: u32, address: u32, value: u32, answer: &mut [u32]) -> u32 {
+    if answer.len() < 18 {
+        return 9;
+    }
+    let mut d = decode(directory);
+    let a = store(&mut d, memory, cache, unit, address, value);
+    finish(&d, &a, directory, answer)
+}
+
+#[inline(never)]
+pub fn trainer_flush(directory: &mut [u8], memory: &mut [u8], cache: &[u8], unit: u32, block: u32, answer: &mut [u32]) -> u32 {
+    if answer.len() < 18 {
+        return 9;
+    }
+    let mut d = decode(directory);
+    let a = flush(&mut d, memory, cache, unit, block);
+    finish(&d, &a, directory, answer)
+}
+
+#[inline(never)]
+pub fn trainer_peek(directory: &[u8], memory: &[u8], cache: &[u8], block: u32, store: &mut u32, offset: &mut u32) -> u32 {
+    let d = decode(directory);
+    let number = refusal(&d, memory, cache, 0, block <= 63);
+    if number == 0 {
+        let b = block as u8;
+        (*store, *offset) = match (0..4).find(|&u| modified(&d, u, b)) {
+            Some(u) => (1, 512 * u as u32 + 32 * (block % 16)),
+            None => (0, 32 * block),
+        };
+    }
+    number
+}

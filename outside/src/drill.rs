@@ -1,0 +1,75 @@
+//! What the drill program prints for a tape.
+use crate::machine::{Call, Machine, STORE_BYTES};
+use crate::tape::{self, Found};
+use std::fmt::Write;
+
+pub const LONGEST_TAPE: usize = 65536;
+
+pub fn drill(tape: &[u8]) -> String {
+    if tape.len() > LONGEST_TAPE {
+        return format!("refused 9 at {LONGEST_TAPE}\n");
+    }
+    let mut machine = Machine::cold(&[0; STORE_BYTES]);
+    let (mut text, mut place, mut calls, mut orders) = (String::new(), 0, 0, 0);
+    loop {
+        let record = match tape::read(tape, place) {
+            Ok(Found::Finished) => break,
+            Ok(Found::Record(record, next)) => {
+                place = next;
+                record
+            }
+            Err(refused) => {
+                let _ = writeln!(text, "refused {} at {}", refused.number, refused.place);
+                return text;
+            }
+        };
+        let (call, word) = match (record.kind, record.fields[..].first_chunk::<2>()) {
+            (0, Some(&[unit, address])) => (Call::Load { unit, address }, "load"),
+            (1, Some(&[unit, address])) => (Call::Store { unit, address, value: record.fields[2] }, "store"),
+            (2, Some(&[unit, block])) => (Call::Flush { unit, block }, "flush"),
+            _ => continue,
+        };
+        let reply = machine.call(call).expect("the tape's ranges are the machine's");
+        let value = match call {
+            Call::Load { .. } => format!(" {}", reply.value),
+            Call::Store { value, .. } => format!(" {value}"),
+            Call::Flush { .. } => String::new(),
+        };
+        let _ = writeln!(text, "{word} {} {}{value} orders {}", record.fields[0], record.fields[1], reply.orders.len());
+        calls += 1;
+        orders += reply.orders.len();
+    }
+    let _ = writeln!(text, "total {calls} calls {orders} orders");
+    text
+}
+
+#[cfg(test)]
+mod tests {
+    use super::*;
+
+    #[test]
+    fn the_papers_drill() {
+        let tape = [
+            0x01, 0x00, 0x48, 0x09, 0x00, 0x01, 0x48, 0x01, 0x01, 0x48, 0x0A, 0x00, 0x00, 0xC8, 0x04, 0x00, 0x01, 0xC8, 0x04, 0x02, 0x01, 0x02,
+        ];
+        let text = "store 0 72 9 orders 1\n\
+                    load 1 72 9 orders 3\n\
+                    store 1 72 10 orders 1\n\
+                    load 0 584 0 orders 1\n\
+                    load 1 584 0 orders 2\n\
+                    flush 1 2 orders 0\n\
+                    total 6 calls 8 orders\n";
+        assert_eq!(drill(&tape), text);
+    }
+
+    #[test]
+    fn the_ends_of_a_drill() {
+        assert_eq!(drill(&[]), "total 0 calls 0 orders\n");
+        assert_eq!(drill(&[0x80, 0x80]), "refused 5 at 0\n");
+        assert_eq!(drill(&[0x80, 0x80, 0x80, 0x80, 0x80]), "refused 6 at 0\n");
+        assert_eq!(drill(&[0x02, 0x00, 0x3F, 0x02, 0x00, 0x40]), "flush 0 63 orders 0\nrefused 8 at 5\n");
+        assert_eq!(drill(&[0x06, 0x00, 0x05]), "total 0 calls 0 orders\n");
+        assert_eq!(drill(&vec![0; LONGEST_TAPE + 1]), "refused 9 at 65536\n");
+        assert_eq!(drill(&vec![0; LONGEST_TAPE]).lines().last(), Some("refused 5 at 65536"));
+    }
+}

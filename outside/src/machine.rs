@@ -1,0 +1,358 @@
+//! The cache machine. A unit is a map from the blocks it holds to how it holds them, with the copies beside it;
+//! the two stores and the directory's bytes are taken in before a call and given back after it.
+use std::collections::BTreeMap;
+
+pub const UNITS: usize = 4;
+pub const SLOTS: usize = 16;
+pub const BLOCKS: usize = 64;
+pub const BLOCK_BYTES: usize = 32;
+pub const STORE_BYTES: usize = 2048;
+/// Two bytes for each slot, slot s of unit u at 2 (16 u + s): state 0 I, 1 SU, 2 EM, then the block.
+pub const DIRECTORY_BYTES: usize = 128;
+
+pub const WRONG_SIZE: u32 = 1;
+pub const BROKEN_DIRECTORY: u32 = 2;
+pub const NO_UNIT: u32 = 3;
+pub const BAD_ADDRESS: u32 = 4;
+
+#[derive(Clone, Copy, Debug, PartialEq, Eq)]
+pub enum Held {
+    SharedUnmodified,
+    ExclusiveModified,
+}
+
+#[derive(Clone, Copy, Debug, PartialEq, Eq)]
+pub enum Command {
+    Read = 0,
+    ModifiedRead = 1,
+    Invalidate = 2,
+    Copyback = 3,
+}
+
+#[derive(Clone, Copy, Debug, PartialEq, Eq)]
+pub struct Order {
+    pub unit: u32,
+    pub command: Command,
+    pub block: u32,
+    pub retried: bool,
+}
+
+#[derive(Clone, Copy, Debug, PartialEq, Eq)]
+pub enum Call {
+    Load { unit: u32, address: u32 },
+    Store { unit: u32, address: u32, value: u32 },
+    Flush { unit: u32, block: u32 },
+}
+
+/// What an accepted call answers: the loaded value (0 for a store and a flush) and the orders.
+#[derive(Clone, Debug, Default, PartialEq, Eq)]
+pub struct Reply {
+    pub value: u32,
+    pub orders: Vec<Order>,
+}
+
+/// Where the newest 32 bytes of a block lie.
+#[derive(Clone, Copy, Debug, PartialEq, Eq)]
+pub enum Newest {
+    Memory { offset: usize },
+    Cache { offset: usize },
+}
+
+type Line = [u8; BLOCK_BYTES];
+
+#[derive(Clone, Debug, PartialEq, Eq)]
+struct Unit {
+    held: BTreeMap<u32, Held>,
+    copies: [Line; SLOTS],
+}
+
+#[derive(Clone, Debug, PartialEq, Eq)]
+pub struct Machine {
+    units: Vec<Unit>,
+    memory: Vec<Line>,
+}
+
+fn lines(store: &[u8]) -> Vec<Line> {
+    store.chunks_exact(BLOCK_BYTES).map(|c| c.try_into().expect("a chunk is 32 bytes")).collect()
+}
+
+fn slot_of(block: u32) -> usize {
+    block as usize % SLOTS
+}
+
+/// The blocks each unit holds, or `None` where the bytes break a rule of the directory.
+fn units_of(directory: &[u8]) -> Option<Vec<BTreeMap<u32, Held>>> {
+    if directory.len() != DIRECTORY_BYTES {
+        return None;
+    }
+    let mut units = vec![BTreeMap::new(); UNITS];
+    for (number, pair) in directory.chunks_exact(2).enumerate() {
+        let (unit, slot, block) = (number / SLOTS, number % SLOTS, pair[1] as u32);
+        let held = match pair[0] {
+            0 if block == 0 => continue,
+            1 => Held::SharedUnmodified,
+            2 => Held::ExclusiveModified,
+            _ => return None,
+        };
+        if block as usize >= BLOCKS || slot_of(block) != slot {
+            return None;
+        }
+        units[unit].insert(block, held);
+    }
+    for block in 0..BLOCKS as u32 {
+        let holders: Vec<Held> = units.iter().filter_map(|unit| unit.get(&block).copied()).collect();
+        if holders.contains(&Held::ExclusiveModified) && holders.len() > 1 {
+            return None;
+        }
+    }
+    Some(units)
+}
+
+impl Machine {
+    /// All slots invalid, the cache store all zeros, memory as lent.
+    pub fn cold(memory: &[u8]) -> Machine {
+        let unit = Unit { held: BTreeMap::new(), copies: [[0; BLOCK_BYTES]; SLOTS] };
+        Machine { units: vec![unit; UNITS], memory: lines(memory) }
+    }
+
+    /// The machine that directory and stores describe: tests 1, then 2.
+    pub fn open(directory: &[u8], memory: &[u8], cache: &[u8]) -> Result<Machine, u32> {
+        if memory.len() != STORE_BYTES || cache.len() != STORE_BYTES {
+            return Err(WRONG_SIZE);
+        }
+        let held = units_of(directory).ok_or(BROKEN_DIRECTORY)?;
+        let copies = lines(cache);
+        let units = held
+            .into_iter()
+            .zip(copies.chunks_exact(SLOTS))
+            .map(|(held, copies)| Unit { held, copies: copies.try_into().expect("sixteen slots") })
+            .collect();
+        Ok(Machine { units, memory: lines(memory) })
+    }
+
+    pub fn directory(&self) -> Vec<u8> {
+        let mut bytes = vec![0; DIRECTORY_BYTES];
+        for (number, unit) in self.units.iter().enumerate() {
+            for (&block, &held) in &unit.held {
+                let at = 2 * (SLOTS * number + slot_of(block));
+                bytes[at] = if held == Held::ExclusiveModified { 2 } else { 1 };
+                bytes[at + 1] = block as u8;
+            }
+        }
+        bytes
+    }
+
+    pub fn memory(&self) -> Vec<u8> {
+        self.memory.concat()
+    }
+
+    pub fn cache(&self) -> Vec<u8> {
+        self.units.iter().flat_map(|unit| unit.copies.concat()).collect()
+    }
+
+    pub fn call(&mut self, call: Call) -> Result<Reply, u32> {
+        match call {
+            Call::Load { unit, address } => {
+                let (unit, block, offset) = target(unit, address)?;
+                Ok(self.load(unit, block, offset))
+            }
+            Call::Store { unit, address, value } => {
+                let (unit, block, offset) = target(unit, address)?;
+                Ok(self.store(unit, block, offset, value))
+            }
+            Call::Flush { unit, block } => {
+                if unit as usize >= UNITS {
+                    return Err(NO_UNIT);
+                }
+                if block as usize >= BLOCKS {
+                    return Err(BAD_ADDRESS);
+                }
+                Ok(self.flush(unit as usize, block))
+            }
+        }
+    }
+
+    /// Where the newest bytes of a block lie: the cache of the unit that has it EM, else memory.
+    pub fn peek(&self, block: u32) -> Result<Newest, u32> {
+        if block as usize >= BLOCKS {
+            return Err(BAD_ADDRESS);
+        }
+        Ok(match self.modifier(block) {
+            Some(unit) => Newest::Cache { offset: 512 * unit + 32 * slot_of(block) },
+            None => Newest::Memory { offset: 32 * block as usize },
+        })
+    }
+
+    fn modifier(&self, block: u32) -> Option<usize> {
+        (0..UNITS).find(|&unit| self.units[unit].held.get(&block) == Some(&Held::ExclusiveModified))
+    }
+
+    fn load(&mut self, unit: usize, block: u32, offset: usize) -> Reply {
+        let mut orders = Vec::new();
+        if !self.units[unit].held.contains_key(&block) {
+            self.fetch(unit, block, Command::Read, &mut orders);
+        }
+        let word = &self.units[unit].copies[slot_of(block)][offset..offset + 4];
+        Reply { value: word.iter().fold(0, |sum, &byte| sum << 8 | byte as u32), orders }
+    }
+
+    fn store(&mut self, unit: usize, block: u32, offset: usize, value: u32) -> Reply {
+        let mut orders = Vec::new();
+        match self.units[unit].held.get(&block) {
+            Some(Held::ExclusiveModified) => {}
+            Some(Held::SharedUnmodified) => orders.push(order(unit, Command::Invalidate, block, false)),
+            None => self.fetch(unit, block, Command::ModifiedRead, &mut orders),
+        }
+        for (number, other) in self.units.iter_mut().enumerate() {
+            if number == unit {
+                other.held.insert(block, Held::ExclusiveModified);
+            } else {
+                other.held.remove(&block);
+            }
+        }
+        for (place, shift) in [24, 16, 8, 0].into_iter().enumerate() {
+            self.units[unit].copies[slot_of(block)][offset + place] = (value >> shift) as u8;
+        }
+        Reply { value: 0, orders }
+    }
+
+    fn flush(&mut self, unit: usize, block: u32) -> Reply {
+        let mut orders = Vec::new();
+        if self.units[unit].held.get(&block) == Some(&Held::ExclusiveModified) {
+            self.copyback(unit, block, &mut orders);
+        }
+        self.units[unit].held.remove(&block);
+        Reply { value: 0, orders }
+    }
+
+    /// The block's place in the unit is emptied, the order given (twice where another unit has the block EM), the copy filled.
+    fn fetch(&mut self, unit: usize, block: u32, command: Command, orders: &mut Vec<Order>) {
+        let slot = slot_of(block);
+        let before = self.units[unit].held.iter().find(|(&b, _)| slot_of(b) == slot).map(|(&b, &h)| (b, h));
+        if let Some((old, held)) = before {
+            if held == Held::ExclusiveModified {
+                self.copyback(unit, old, orders);
+            }
+            self.units[unit].held.remove(&old);
+        }
+        if let Some(holder) = self.modifier(block) {
+            orders.push(order(unit, command, block, true));
+            self.copyback(holder, block, orders);
+            self.units[holder].held.insert(block, Held::SharedUnmodified);
+        }
+        orders.push(order(unit, command, block, false));
+        self.units[unit].copies[slot] = self.memory[block as usize];
+        self.units[unit].held.insert(block, Held::SharedUnmodified);
+    }
+
+    fn copyback(&mut self, unit: usize, block: u32, orders: &mut Vec<Order>) {
+        orders.push(order(unit, Command::Copyback, block, false));
+        self.memory[block as usize] = self.units[unit].copies[slot_of(block)];
+    }
+}
+
+fn order(unit: usize, command: Command, block: u32, retried: bool) -> Order {
+    Order { unit: unit as u32, command, block, retried }
+}
+
+/// Unit, block and offset in the block of a load or a store: tests 3, then 4.
+fn target(unit: u32, address: u32) -> Result<(usize, u32, usize), u32> {
+    if unit as usize >= UNITS {
+        return Err(NO_UNIT);
+    }
+    if address % 4 != 0 || address > 2044 {
+        return Err(BAD_ADDRESS);
+    }
+    Ok((unit as usize, address / 32, (address % 32) as usize))
+}
+
+#[cfg(test)]
+mod tests {
+    use super::*;
+    use Command::*;
+
+    fn cold() -> Machine {
+        Machine::cold(&[0; STORE_BYTES])
+    }
+
+    fn load(unit: u32, address: u32) -> Call {
+        Call::Load { unit, address }
+    }
+
+    fn store(unit: u32, address: u32, value: u32) -> Call {
+        Call::Store { unit, address, value }
+    }
+
+    #[test]
+    fn words_are_most_significant_byte_first() {
+        let mut machine = cold();
+        machine.call(store(2, 72, 300)).unwrap();
+        assert_eq!(machine.cache()[1096..1100], [0, 0, 1, 0x2C]);
+        assert_eq!(machine.memory()[72..76], [0, 0, 0, 0]);
+        assert_eq!(machine.peek(2), Ok(Newest::Cache { offset: 1088 }));
+        let reply = machine.call(Call::Flush { unit: 2, block: 2 }).unwrap();
+        assert_eq!(reply.orders, [order(2, Copyback, 2, false)]);
+        assert_eq!(machine.memory()[72..76], [0, 0, 1, 0x2C]);
+        assert_eq!(machine.cache()[1096..1100], [0, 0, 1, 0x2C]);
+        assert_eq!(machine.peek(2), Ok(Newest::Memory { offset: 64 }));
+        assert_eq!(machine.directory(), [0; DIRECTORY_BYTES]);
+    }
+
+    #[test]
+    fn four_orders_of_one_load() {
+        let mut machine = cold();
+        machine.call(store(0, 72, 9)).unwrap();
+        machine.call(store(1, 584, 1)).unwrap();
+        let reply = machine.call(load(1, 72)).unwrap();
+        let orders = [order(1, Copyback, 18, false), order(1, Read, 2, true), order(0, Copyback, 2, false), order(1, Read, 2, false)];
+        assert_eq!(reply, Reply { value: 9, orders: orders.to_vec() });
+    }
+
+    #[test]
+    fn a_store_to_a_shared_block_invalidates() {
+        let mut machine = cold();
+        machine.call(load(0, 72)).unwrap();
+        machine.call(load(3, 72)).unwrap();
+        assert_eq!(machine.call(store(3, 72, 7)).unwrap().orders, [order(3, Invalidate, 2, false)]);
+        let mut directory = [0; DIRECTORY_BYTES];
+        directory[2 * (48 + 2)..2 * (48 + 2) + 2].copy_from_slice(&[2, 2]);
+        assert_eq!(machine.directory(), directory);
+    }
+
+    #[test]
+    fn refusals_in_their_order() {
+        let mut machine = cold();
+        assert_eq!(machine.call(load(4, 2)), Err(3));
+        assert_eq!(machine.call(load(3, 2)), Err(4));
+        assert_eq!(machine.call(load(3, 2048)), Err(4));
+        assert!(machine.call(load(3, 2044)).is_ok());
+        assert_eq!(machine.call(Call::Flush { unit: 256, block: 64 }), Err(3));
+        assert_eq!(machine.call(Call::Flush { unit: 0, block: 64 }), Err(4));
+        assert!(machine.call(Call::Flush { unit: 0, block: 63 }).is_ok());
+        let (good, store) = ([0; DIRECTORY_BYTES], [0; STORE_BYTES]);
+        assert!(Machine::open(&good, &store, &store).is_ok());
+        assert_eq!(Machine::open(&good, &store[1..], &store), Err(1));
+        assert_eq!(Machine::open(&good[1..], &store[1..], &store), Err(1));
+        assert_eq!(Machine::open(&good[1..], &store, &store), Err(2));
+    }
+
+    #[test]
+    fn what_breaks_a_directory() {
+        let store = [0; STORE_BYTES];
+        let broken = |places: &[(usize, u8, u8)]| {
+            let mut directory = [0; DIRECTORY_BYTES];
+            for &(slot, state, block) in places {
+                directory[2 * slot] = state;
+                directory[2 * slot + 1] = block;
+            }
+            Machine::open(&directory, &store, &store) == Err(2)
+        };
+        assert!(!broken(&[(2, 1, 18), (18, 1, 18), (34, 2, 2)]));
+        assert!(broken(&[(2, 0, 2)]), "an invalid slot has block 0");
+        assert!(broken(&[(2, 3, 2)]), "no such state");
+        assert!(broken(&[(2, 1, 3)]), "block mod 16 is the slot");
+        assert!(broken(&[(2, 1, 66)]), "a block is at most 63");
+        assert!(broken(&[(2, 2, 18), (50, 1, 18)]), "EM in one unit, valid in another");
+        assert!(broken(&[(2, 2, 18), (50, 2, 18)]), "EM in two units");
+    }
+}

@@ -1,0 +1,469 @@
+//! Holds the proved library, through its C interface, against the second implementation: every answer, every order, every byte of
+//! both stores, every refusal. The seeds are fixed; a difference ends the run with a failure.
+use outside::archive::{self, ANSWER_NUMBERS, RECORD_NUMBERS};
+use outside::drill::{drill, LONGEST_TAPE};
+use outside::machine::{Call, Machine, Newest, Reply, DIRECTORY_BYTES, STORE_BYTES};
+use outside::random::Random;
+use outside::tape::{self, Found, Record};
+use std::collections::BTreeMap;
+use std::fmt::Debug;
+
+/// How often each thing was compared, and how often each number came back.
+#[derive(Default)]
+struct Counts {
+    compared: BTreeMap<&'static str, u64>,
+    codes: BTreeMap<(&'static str, u32), u64>,
+}
+
+impl Counts {
+    fn one(&mut self, what: &'static str, code: u32) {
+        *self.compared.entry(what).or_default() += 1;
+        *self.codes.entry((what, code)).or_default() += 1;
+    }
+}
+
+fn same<T: PartialEq + Debug>(what: &str, context: &dyn Debug, proved: T, outside: T) {
+    if proved != outside {
+        println!("DIFFERENCE in {what}\nof {context:02x?}\nproved:  {proved:02x?}\noutside: {outside:02x?}");
+        std::process::exit(1);
+    }
+}
+
+const UNTOUCHED: u32 = 0xA5A5_A5A5;
+
+/// The numbers that a call leaves in the lent space.
+fn answer_after(reply: &Result<Reply, u32>, space: usize) -> Vec<u32> {
+    let mut numbers = vec![UNTOUCHED; space];
+    if let Ok(reply) = reply {
+        numbers[..ANSWER_NUMBERS].fill(0);
+        numbers[0] = reply.value;
+        numbers[1] = reply.orders.len() as u32;
+        for (order, place) in reply.orders.iter().zip(numbers[2..].chunks_exact_mut(4)) {
+            place.copy_from_slice(&[order.unit, order.command as u32, order.block, u32::from(order.retried)]);
+        }
+    }
+    numbers
+}
+
+fn code_of<T>(result: &Result<T, u32>) -> u32 {
+    result.as_ref().err().copied().unwrap_or(0)
+}
+
+/// The proved machine's state as a caller holds it.
+#[derive(Clone, Debug)]
+struct Lent {
+    directory: Vec<u8>,
+    memory: Vec<u8>,
+    cache: Vec<u8>,
+    answer: Vec<u32>,
+}
+
+impl Lent {
+    fn call(&mut self, call: Call) -> u32 {
+        let Lent { directory, memory, cache, answer } = self;
+        answer.fill(UNTOUCHED);
+        match call {
+            Call::Load { unit, address } => archive::load(directory, memory, cache, unit, address, answer),
+            Call::Store { unit, address, value } => archive::store(directory, memory, cache, unit, address, value, answer),
+            Call::Flush { unit, block } => archive::flush(directory, memory, cache, unit, block, answer),
+        }
+    }
+
+    /// Peek's number, and the store and the offset that it left in the lent numbers.
+    fn peek(&self, block: u32) -> (u32, u32, u32) {
+        let (mut store, mut offset) = (UNTOUCHED, UNTOUCHED);
+        let code = archive::peek(&self.directory, &self.memory, &self.cache, block, &mut store, &mut offset);
+        (code, store, offset)
+    }
+}
+
+fn peeked(newest: Result<Newest, u32>) -> (u32, u32, u32) {
+    match newest {
+        Ok(Newest::Memory { offset }) => (0, 0, offset as u32),
+        Ok(Newest::Cache { offset }) => (0, 1, offset as u32),
+        Err(code) => (code, UNTOUCHED, UNTOUCHED),
+    }
+}
+
+fn name(call: Call) -> &'static str {
+    match call {
+        Call::Load { .. } => "loads",
+        Call::Store { .. } => "stores",
+        Call::Flush { .. } => "flushes",
+    }
+}
+
+/// A call by a few units on a few blocks that share slots, now and then with an argument that is out of range.
+fn random_call(random: &mut Random, blocks: u32) -> Call {
+    let far = [4, 5, 63, 64, 255, 256, 257, 1 << 16, (1 << 16) + 1, u32::MAX - 3, u32::MAX];
+    let unit = if random.one_in(40) { random.pick(&far) } else { random.below(4) };
+    let block = if random.one_in(3) { random.below(64) } else { random.below(blocks) * 16 % 64 + random.below(2) };
+    let address = match random.below(40) {
+        0 => random.pick(&[2044, 2046, 2047, 2048, 2052, 4096, u32::MAX - 3, u32::MAX]),
+        1 => random.below(2100),
+        _ => 32 * block + 4 * random.below(8),
+    };
+    match random.below(10) {
+        0 => {
+            let block = if random.one_in(10) { random.pick(&far) } else { block };
+            Call::Flush { unit, block }
+        }
+        1..=5 => Call::Load { unit, address },
+        _ => Call::Store { unit, address, value: random.next() },
+    }
+}
+
+/// Lists of calls after a cold start, each call on what the last one left.
+fn lists_of_calls(counts: &mut Counts) {
+    for seed in 0..1200 {
+        let mut random = Random::new(seed);
+        let memory: Vec<u8> = (0..STORE_BYTES).map(|_| random.byte()).collect();
+        let mut lent = Lent {
+            directory: (0..DIRECTORY_BYTES).map(|_| random.byte()).collect(),
+            cache: (0..STORE_BYTES).map(|_| random.byte()).collect(),
+            answer: vec![0; ANSWER_NUMBERS],
+            memory,
+        };
+        let code = archive::cold_start(&lent.memory, &mut lent.cache, &mut lent.directory);
+        same("the cold start of a list", &seed, code, 0);
+        let mut machine = Machine::cold(&lent.memory);
+        let blocks = 1 + random.below(4);
+        for step in 0..200 {
+            let call = random_call(&mut random, blocks);
+            let reply = machine.call(call);
+            let code = lent.call(call);
+            let context = (seed, step, call);
+            same("a call's refusal", &context, code, code_of(&reply));
+            same("a call's answer", &context, lent.answer.clone(), answer_after(&reply, ANSWER_NUMBERS));
+            same("the directory after a call", &context, &lent.directory, &machine.directory());
+            same("the memory store after a call", &context, &lent.memory, &machine.memory());
+            same("the cache store after a call", &context, &lent.cache, &machine.cache());
+            counts.one(name(call), code);
+            let block = if random.one_in(20) { random.next() } else { random.below(70) };
+            let seen = lent.peek(block);
+            same("a peek", &(seed, step, block), seen, peeked(machine.peek(block)));
+            counts.one("peeks", seen.0);
+        }
+    }
+}
+
+/// A directory that keeps the rules, with many blocks in several units.
+fn sound_directory(random: &mut Random) -> Vec<u8> {
+    let mut bytes = vec![0; DIRECTORY_BYTES];
+    for slot in 0..16u32 {
+        let block = |random: &mut Random| (16 * random.below(4) + slot) as u8;
+        let exclusive = if random.one_in(2) { Some((random.below(4), block(random))) } else { None };
+        for unit in 0..4 {
+            let at = 2 * (16 * unit + slot) as usize;
+            match exclusive {
+                Some((owner, own)) if owner == unit => bytes[at..at + 2].copy_from_slice(&[2, own]),
+                _ => {
+                    let other = block(random);
+                    if random.below(3) > 0 && exclusive.map(|(_, own)| own) != Some(other) {
+                        bytes[at..at + 2].copy_from_slice(&[1, other]);
+                    }
+                }
+            }
+        }
+    }
+    bytes
+}
+
+fn random_size(random: &mut Random, right: usize) -> usize {
+    match random.below(12) {
+        0 => random.pick(&[0, 1, right - 1, right + 1, right / 2, 2 * right, right - 2, right + 2]),
+        _ => right,
+    }
+}
+
+/// Single calls on any directory and stores of any size.
+fn single_calls(counts: &mut Counts) {
+    for seed in 0..120_000 {
+        let mut random = Random::new(1_000_000 + seed);
+        let mut directory = sound_directory(&mut random);
+        for _ in 0..random.pick(&[0, 0, 0, 1, 1, 2, 8]) {
+            let at = random.below(DIRECTORY_BYTES as u32) as usize;
+            directory[at] = if random.one_in(2) { random.below(4) as u8 } else { random.byte() % 80 };
+        }
+        if random.one_in(30) {
+            directory.iter_mut().for_each(|byte| *byte = random.byte());
+        }
+        let size = random_size(&mut random, DIRECTORY_BYTES);
+        directory.resize(size, 0);
+        let mut store = || {
+            let size = random_size(&mut random, STORE_BYTES);
+            let (seed, step) = (random.byte(), random.byte() | 1);
+            (0..size).map(|n| seed.wrapping_add(step.wrapping_mul(n as u8)).wrapping_add((n / 32) as u8)).collect::<Vec<u8>>()
+        };
+        let (memory, cache) = (store(), store());
+        let space = random.pick(&[ANSWER_NUMBERS, ANSWER_NUMBERS, ANSWER_NUMBERS, 0, 17, 19, 30]);
+        let mut lent = Lent { directory, memory, cache, answer: vec![0; space] };
+        let before = lent.clone();
+        let call = random_call(&mut random, 4);
+        let room = if space < ANSWER_NUMBERS { Err(tape::NO_ROOM) } else { Ok(()) };
+        let opened = Machine::open(&lent.directory, &lent.memory, &lent.cache);
+
+        let block = if random.one_in(5) { random.next() } else { random.below(66) };
+        let seen = lent.peek(block);
+        same("a peek", &(seed, block, &lent), seen, peeked(opened.clone().and_then(|machine| machine.peek(block))));
+        counts.one("peeks", seen.0);
+
+        let code = lent.call(call);
+        let mut after = room.and_then(|()| opened);
+        let reply = after.as_mut().map_err(|code| *code).and_then(|machine| machine.call(call));
+        let context = (seed, call, &before);
+        same("a call's refusal", &context, code, code_of(&reply));
+        same("a call's answer", &context, lent.answer.clone(), answer_after(&reply, space));
+        let left = match after {
+            Ok(machine) => (machine.directory(), machine.memory(), machine.cache()),
+            Err(_) => (before.directory.clone(), before.memory.clone(), before.cache.clone()),
+        };
+        same("what a call leaves", &context, (lent.directory, lent.memory, lent.cache), left);
+        counts.one(name(call), code);
+    }
+}
+
+/// Cold starts on stores and directory spaces of any size.
+fn cold_starts(counts: &mut Counts) {
+    for seed in 0..20_000 {
+        let mut random = Random::new(2_000_000 + seed);
+        let memory = vec![random.byte(); random_size(&mut random, STORE_BYTES)];
+        let mut cache = vec![random.byte(); random_size(&mut random, STORE_BYTES)];
+        let mut directory = vec![random.byte(); random_size(&mut random, DIRECTORY_BYTES)];
+        let context = (seed, memory.len(), cache.len(), directory.len());
+        let (mut cache_after, mut directory_after) = (cache.clone(), directory.clone());
+        let expected = if directory.len() < DIRECTORY_BYTES {
+            tape::NO_ROOM
+        } else {
+            directory_after[..DIRECTORY_BYTES].fill(0);
+            if memory.len() == STORE_BYTES && cache.len() == STORE_BYTES {
+                cache_after.fill(0);
+                0
+            } else {
+                1
+            }
+        };
+        let code = archive::cold_start(&memory, &mut cache, &mut directory);
+        same("a cold start", &context, (code, cache, directory), (expected, cache_after, directory_after));
+        counts.one("cold starts", code);
+    }
+}
+
+/// A field's number, mostly in range.
+fn random_field(random: &mut Random, kind: u32, place: usize) -> u64 {
+    if random.one_in(60) {
+        let edges = [2, 3, 4, 7, 8, 63, 64, 127, 128, 255, 256, 257, 1 << 16, 1 << 31, u64::from(u32::MAX), 1 << 32, (1 << 32) + 1, u64::MAX];
+        return random.pick(&edges);
+    }
+    u64::from(match (kind, place) {
+        (0..=2 | 6, 0) => random.below(4),
+        (0 | 1, 1) => 4 * random.below(512),
+        (2, _) => random.below(64),
+        (1, 2) | (6, 1) | (5, 4) => {
+            let wide = random.next();
+            wide >> random.below(32)
+        }
+        (3, 0) => random.below(4),
+        (3, 1) => random.below(4),
+        (3, 2) => random.below(64),
+        (3, _) => random.below(2),
+        (4 | 5, 0 | 1) => random.below(8),
+        (4, _) | (5, 2) => random.below(256),
+        (5, 3) => random.below(2),
+        _ => random.below(8),
+    })
+}
+
+/// Seven numbers: a kind, and fields for it with 0 behind them.
+fn random_numbers(random: &mut Random) -> Vec<u64> {
+    let kind = if random.one_in(40) { random.pick(&[7, 8, 256, u64::from(u32::MAX), 1 << 32, (1 << 32) + 2]) } else { u64::from(random.below(7)) };
+    let mut numbers = vec![0; RECORD_NUMBERS];
+    numbers[0] = kind;
+    for place in 0..tape::field_count(kind.min(9) as u32).unwrap_or(0) {
+        numbers[1 + place] = random_field(random, kind as u32, place);
+    }
+    numbers
+}
+
+/// The record that seven numbers name: fields that no 32-bit number holds are out of every range.
+fn record_of(numbers: &[u64]) -> Result<Record, u32> {
+    let kind = u32::try_from(numbers[0]).map_err(|_| tape::UNKNOWN_KIND)?;
+    let count = tape::field_count(kind).ok_or(tape::UNKNOWN_KIND)?;
+    let fields = numbers[1..=count].iter().map(|&n| u32::try_from(n)).collect::<Result<Vec<u32>, _>>();
+    Ok(Record { kind, fields: fields.map_err(|_| tape::FIELD_RANGE)? })
+}
+
+fn numbers_of(record: &Record) -> Vec<u64> {
+    let mut numbers = vec![0; RECORD_NUMBERS];
+    numbers[0] = u64::from(record.kind);
+    for (place, &field) in numbers[1..].iter_mut().zip(&record.fields) {
+        *place = u64::from(field);
+    }
+    numbers
+}
+
+/// Writes one record both ways, and compares; gives its bytes where it is accepted.
+fn write_both(counts: &mut Counts, random: &mut Random, numbers: &[u64], room: usize) -> Option<Vec<u8>> {
+    let written = if numbers.len() == RECORD_NUMBERS {
+        record_of(numbers).and_then(|record| tape::write(&record, room))
+    } else {
+        Err(tape::FIELD_RANGE)
+    };
+    let fill = random.byte();
+    let mut space = vec![fill; room];
+    let mut count = usize::MAX;
+    let code = archive::write_record(numbers, &mut space, &mut count);
+    let mut expected = vec![fill; room];
+    if let Ok(bytes) = &written {
+        expected[..bytes.len()].copy_from_slice(bytes);
+    }
+    let length = written.as_ref().map_or(usize::MAX, Vec::len);
+    same("a written record", &(numbers, room), (code, count, space), (code_of(&written), length, expected));
+    counts.one("records written", code);
+    written.ok()
+}
+
+/// Reads at a place both ways, and compares; gives the place after the record.
+fn read_both(counts: &mut Counts, tape: &[u8], place: usize, space: usize) -> Option<usize> {
+    let mut next = usize::MAX;
+    let mut numbers = vec![u64::MAX; space];
+    let code = archive::read_record(tape, place, &mut next, &mut numbers);
+    let mut left = vec![u64::MAX; space];
+    let mut after = None;
+    let expected = if space < RECORD_NUMBERS {
+        (tape::NO_ROOM, usize::MAX)
+    } else {
+        match tape::read(tape, place) {
+            Ok(Found::Record(record, end)) => {
+                left[..RECORD_NUMBERS].copy_from_slice(&numbers_of(&record));
+                after = Some(end);
+                (0, end)
+            }
+            Ok(Found::Finished) => (0, place),
+            Err(refused) => (refused.number, refused.place),
+        }
+    };
+    same("a record that was read", &(tape, place, space), ((code, next), numbers), (expected, left));
+    counts.one("records read", code);
+    after
+}
+
+/// A tape of whole records, most of the time damaged afterwards.
+fn random_tape(counts: &mut Counts, random: &mut Random, records: u32, damage: bool) -> Vec<u8> {
+    let mut tape = Vec::new();
+    for _ in 0..records {
+        let numbers = random_numbers(random);
+        let room = if random.one_in(10) { random.below(12) as usize } else { 40 };
+        if let Some(bytes) = write_both(counts, random, &numbers, room) {
+            tape.extend(bytes);
+        }
+    }
+    if damage {
+        for _ in 0..random.below(4) {
+            let at = random.below(tape.len() as u32 + 1) as usize;
+            match random.below(6) {
+                0 => tape.truncate(at),
+                1 => tape.insert(at, random.pick(&[0, 0x80, 0xFF, 0x0F, 0x10])),
+                2 if at < tape.len() => drop(tape.remove(at)),
+                3 => tape.push(0x80),
+                _ if at < tape.len() => tape[at] ^= 1 << random.below(8),
+                _ => tape.push(random.byte()),
+            }
+        }
+    }
+    tape
+}
+
+fn tapes(counts: &mut Counts) {
+    for seed in 0..30_000 {
+        let mut random = Random::new(3_000_000 + seed);
+        let tape = match random.below(8) {
+            0 => (0..random.below(30)).map(|_| random.byte()).collect(),
+            1 => (0..random.below(30)).map(|_| random.pick(&[0, 1, 2, 3, 4, 5, 6, 7, 0x80, 0x7F, 0x0F, 0x10, 0xFF])).collect(),
+            kind => {
+                let records = random.below(12);
+                random_tape(counts, &mut random, records, kind > 3)
+            }
+        };
+        let mut place = 0;
+        while let Some(next) = read_both(counts, &tape, place, RECORD_NUMBERS) {
+            if let Ok(Found::Record(record, _)) = tape::read(&tape, place) {
+                let bytes = write_both(counts, &mut random, &numbers_of(&record), 40);
+                same("a record written back", &(&tape, place), bytes.as_deref(), Some(&tape[place..next]));
+            }
+            place = next;
+        }
+        for _ in 0..3 {
+            let place = match random.below(4) {
+                0 => tape.len() + random.below(3) as usize,
+                1 => random.pick(&[usize::MAX, usize::MAX - 1, 1 << 32, 1 << 63]),
+                _ => random.below(tape.len() as u32 + 1) as usize,
+            };
+            let space = random.pick(&[RECORD_NUMBERS, RECORD_NUMBERS, 0, 6, 8, 12]);
+            read_both(counts, &tape, place, space);
+        }
+        let numbers: Vec<u64> = random_numbers(&mut random).into_iter().chain([0]).collect();
+        let size = random.pick(&[0, 1, 6, 7, 8]);
+        write_both(counts, &mut random, &numbers[..size], 40);
+        *counts.compared.entry("tapes").or_default() += 1;
+    }
+}
+
+fn drill_both(counts: &mut Counts, tape: &[u8], space: usize) {
+    let text = drill(tape).into_bytes();
+    let mut out = vec![0xA5; space];
+    let mut count = usize::MAX;
+    let code = archive::drill(tape, &mut out, &mut count);
+    let mut expected = vec![0xA5; space];
+    let result = if text.len() <= space {
+        expected[..text.len()].copy_from_slice(&text);
+        (0, text.len())
+    } else {
+        (tape::NO_ROOM, usize::MAX)
+    };
+    same("a drill's number and length", &(tape.len(), space), (code, count), result);
+    same("a drill's text", &tape, String::from_utf8_lossy(&out), String::from_utf8_lossy(&expected));
+    counts.one("drills", code);
+}
+
+fn drills(counts: &mut Counts) {
+    for seed in 0..3_000 {
+        let mut random = Random::new(4_000_000 + seed);
+        let records = random.below(200);
+        let damage = random.one_in(3);
+        let tape = random_tape(counts, &mut random, records, damage);
+        let space = if random.one_in(10) { random.below(3000) as usize } else { 1 << 20 };
+        drill_both(counts, &tape, space);
+    }
+    for seed in 0..6 {
+        let mut random = Random::new(5_000_000 + seed);
+        let mut tape = Vec::new();
+        while tape.len() < LONGEST_TAPE - 100 {
+            tape.extend(random_tape(counts, &mut random, 100, false));
+        }
+        for size in [LONGEST_TAPE - 1, LONGEST_TAPE, LONGEST_TAPE + 1, LONGEST_TAPE + 5000] {
+            tape.resize(size, 0);
+            drill_both(counts, &tape, 1 << 22);
+        }
+    }
+    drill_both(counts, &[], 23);
+    drill_both(counts, &[], 22);
+}
+
+fn main() {
+    let mut counts = Counts::default();
+    lists_of_calls(&mut counts);
+    single_calls(&mut counts);
+    cold_starts(&mut counts);
+    tapes(&mut counts);
+    drills(&mut counts);
+    let calls: u64 = ["loads", "stores", "flushes"].iter().map(|what| counts.compared[what]).sum();
+    println!("compared, with no difference:");
+    println!("  {calls} calls");
+    for (what, count) in &counts.compared {
+        let codes: Vec<String> =
+            counts.codes.iter().filter(|((w, _), _)| w == what).map(|((_, code), n)| format!("{code}: {n}")).collect();
+        let codes = if codes.is_empty() { String::new() } else { format!(" (by number of refusal: {})", codes.join(", ")) };
+        println!("  {count} {what}{codes}");
+    }
+}
