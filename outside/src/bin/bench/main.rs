@@ -210,7 +210,7 @@ fn mix_row(program: &str) {
     let [proved, same, place] = {
         let mut least = [f64::MAX; 3];
         let mut sums = [0u32; 3];
-        for _ in 0..7 {
+        for _ in 0..ROUNDS / 2 {
             for (side, least) in least.iter_mut().enumerate() {
                 let start = Instant::now();
                 sums[side] = match side {

@@ -5,7 +5,7 @@ type Directory = [u8; 128];
 
 /// A slot's two bytes as one number: the state below, the block above.
 fn slot(d: &Directory, n: usize) -> u16 {
-    u16::from_le_bytes([d[2 * n], d[2 * n + 1]])
+    u16::from_le_bytes(d[2 * n..2 * n + 2].try_into().expect("two bytes"))
 }
 
 fn state(d: &Directory, n: usize) -> u8 {
@@ -33,14 +33,18 @@ fn unspelled(x: u16) -> u16 {
     (rank(x) > 2 || (rank(x) == 0 && x != 0)) as u16
 }
 
-fn sound(d: &Directory) -> bool {
+/// The rules of the directory; `LENT` also tests that bytes from outside spell slots at all.
+fn sound<const LENT: bool>(d: &Directory) -> bool {
     let mut faults = 0u16;
+    let slots: [u16; 64] = std::array::from_fn(|n| slot(d, n));
     for s in 0..16usize {
-        let (w, x, y, z) = (slot(d, s), slot(d, 16 + s), slot(d, 32 + s), slot(d, 48 + s));
+        let (w, x, y, z) = (slots[s], slots[16 + s], slots[32 + s], slots[48 + s]);
         let k = s as u16;
         let (bw, bx, by, bz) = (seat(w, k), seat(x, k), seat(y, k), seat(z, k));
         let (rw, rx, ry, rz) = (rank(w), rank(x), rank(y), rank(z));
-        faults += unspelled(w) + unspelled(x) + unspelled(y) + unspelled(z);
+        if LENT {
+            faults += unspelled(w) + unspelled(x) + unspelled(y) + unspelled(z);
+        }
         faults += misfit(bw, k) + misfit(bx, k) + misfit(by, k) + misfit(bz, k);
         faults += clash(bw, rw, bx, rx) + clash(bw, rw, by, ry) + clash(bw, rw, bz, rz);
         faults += clash(bx, rx, by, ry) + clash(bx, rx, bz, rz) + clash(by, ry, bz, rz);
@@ -58,10 +62,10 @@ fn modified(d: &Directory, u: usize, b: u8) -> bool {
     state(d, n) == 2 && block(d, n) == b
 }
 
-fn refusal(d: Option<&Directory>, memory: &[u8], cache: &[u8], unit: u32, good: bool) -> u32 {
+fn refusal<const LENT: bool>(d: Option<&Directory>, memory: &[u8], cache: &[u8], unit: u32, good: bool) -> u32 {
     if memory.len() != 2048 || cache.len() != 2048 {
         1
-    } else if !d.is_some_and(sound) {
+    } else if !d.is_some_and(sound::<LENT>) {
         2
     } else if unit > 3 {
         3
@@ -157,7 +161,7 @@ pub fn flush(d: &mut Directory, memory: &mut [u8], cache: &[u8], u: usize, b: u8
 /// A load with its tests, on a directory of the right size: the machine's call with no boundary around it.
 #[inline(never)]
 pub fn tested_load(d: &mut Directory, memory: &mut [u8], cache: &mut [u8], unit: u32, address: u32) -> Answer {
-    let number = refusal(Some(d), memory, cache, unit, address % 4 == 0 && address <= 2044);
+    let number = refusal::<false>(Some(d), memory, cache, unit, address % 4 == 0 && address <= 2044);
     if number != 0 {
         return Answer { refusal: number, ..empty() };
     }
@@ -166,7 +170,7 @@ pub fn tested_load(d: &mut Directory, memory: &mut [u8], cache: &mut [u8], unit:
 
 #[inline(never)]
 pub fn tested_store(d: &mut Directory, memory: &mut [u8], cache: &mut [u8], unit: u32, address: u32, value: u32) -> Answer {
-    let number = refusal(Some(d), memory, cache, unit, address % 4 == 0 && address <= 2044);
+    let number = refusal::<false>(Some(d), memory, cache, unit, address % 4 == 0 && address <= 2044);
     if number != 0 {
         return Answer { refusal: number, ..empty() };
     }
@@ -179,7 +183,7 @@ pub fn trainer_load(directory: &mut [u8], memory: &mut [u8], cache: &mut [u8], u
         return 9;
     }
     let mut d = <&mut Directory>::try_from(directory).ok();
-    let number = refusal(d.as_deref(), memory, cache, unit, address % 4 == 0 && address <= 2044);
+    let number = refusal::<true>(d.as_deref(), memory, cache, unit, address % 4 == 0 && address <= 2044);
     if let (0, Some(d)) = (number, d.as_deref_mut()) {
         hand_over(&load(d, memory, cache, unit as usize, address), answer);
     }
@@ -192,7 +196,7 @@ pub fn trainer_store(directory: &mut [u8], memory: &mut [u8], cache: &mut [u8], 
         return 9;
     }
     let mut d = <&mut Directory>::try_from(directory).ok();
-    let number = refusal(d.as_deref(), memory, cache, unit, address % 4 == 0 && address <= 2044);
+    let number = refusal::<true>(d.as_deref(), memory, cache, unit, address % 4 == 0 && address <= 2044);
     if let (0, Some(d)) = (number, d.as_deref_mut()) {
         hand_over(&store(d, memory, cache, unit as usize, address, value), answer);
     }
@@ -205,7 +209,7 @@ pub fn trainer_flush(directory: &mut [u8], memory: &mut [u8], cache: &[u8], unit
         return 9;
     }
     let mut d = <&mut Directory>::try_from(directory).ok();
-    let number = refusal(d.as_deref(), memory, cache, unit, block <= 63);
+    let number = refusal::<true>(d.as_deref(), memory, cache, unit, block <= 63);
     if let (0, Some(d)) = (number, d.as_deref_mut()) {
         hand_over(&flush(d, memory, cache, unit as usize, block as u8), answer);
     }
@@ -215,7 +219,7 @@ pub fn trainer_flush(directory: &mut [u8], memory: &mut [u8], cache: &[u8], unit
 #[inline(never)]
 pub fn trainer_peek(directory: &[u8], memory: &[u8], cache: &[u8], block: u32, store: &mut u32, offset: &mut u32) -> u32 {
     let d = <&Directory>::try_from(directory).ok();
-    let number = refusal(d, memory, cache, 0, block <= 63);
+    let number = refusal::<true>(d, memory, cache, 0, block <= 63);
     if let (0, Some(d)) = (number, d) {
         (*store, *offset) = match (0..4).find(|&u| modified(d, u, block as u8)) {
             Some(u) => (1, 512 * u as u32 + 32 * (block % 16)),
