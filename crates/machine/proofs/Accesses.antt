@@ -38,7 +38,7 @@ not-modified (Modified c) b h = h
 -- ---- the actions
 emptied-is : (u n : ℕ) (x : Slot) (d : Directory) (m c : List ℕ)
     → emptied u n x (machine d m c []) ≡ machine (emptiedDirectory n x d) (evictedMemory n x m c) c (evictionOrders u x)
-unfolding emptied emptiedDirectory evictedMemory evictionOrders mark copyback writeBack give
+unfolding emptied emptiedDirectory evictedMemory evictionOrders mark copyback writeBack give order
 emptied-is u n Invalid d m c = refl
 emptied-is u n (Shared b) d m c = refl
 emptied-is u n (Modified b) d m c =
@@ -55,7 +55,7 @@ three os x y z = simp append-assoc
 ask-is : (u : ℕ) (k : Command) (b : ℕ) (d : Directory) (m c : List ℕ) (os : List Order)
     → ask u k b (machine d m c os)
     ≡ machine (yieldedDirectory b (ownerOf d b) d) (yieldedMemory b (ownerOf d b) m c) c (os ++ askOrders u k b (ownerOf d b))
-unfolding ask give yield copyback mark writeBack yieldedDirectory yieldedMemory askOrders
+unfolding ask give yield copyback mark writeBack yieldedDirectory yieldedMemory askOrders order
 ask-is u k b d m c os = go (ownerOf d b)
   where
     go : (v : ℕ) → give u k b false (yield u k b v (machine d m c os)) ≡ machine (yieldedDirectory b v d) (yieldedMemory b v m c) c (os ++ askOrders u k b v)
@@ -136,7 +136,7 @@ store-owned u a v d m c h = rw h
 pub store-shared : (u a v : ℕ) (d : Directory) (m c : List ℕ) → modified (slotAt d (place u (a / 32))) (a / 32) ≡ false
     → holds (slotAt d (place u (a / 32))) (a / 32) ≡ true
     → store u a v (ready d m c) ≡ machine (claimedAtOnce u (a / 32) d) m (putWord c (cachePlace u a) v) (order u Invalidate (a / 32) false ∷ [])
-unfolding store own write ready give
+unfolding store own write ready give order
 store-shared u a v d m c g h =
     rw (g, h) (ap (write u a v) (claim-is u (a / 32) (give u Invalidate (a / 32) false (ready d m c))))
 

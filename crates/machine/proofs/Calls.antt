@@ -32,7 +32,7 @@ pub comes-to : (c : Call) {w : Run} {d : Directory} {m k : List ℕ} {o : Orders
     → act c (ready d m k) ≡ w → r ≡ answerOf 0 v o e
     → v ≡ loaded c w → o ≡ packed (w .orders) → e ≡ w .directory → m′ ≡ w .memory → k′ ≡ w .cache
     → Accepts c d m k r m′ k′
-unfolding acted
+unfolding acted answerOf
 comes-to c does r v o e p q =
     let t = sym does in
     let v₁ = v ∙ ap (loaded c) t in
@@ -44,7 +44,7 @@ comes-to c does r v o e p q =
 
 pub accepts : (d : Directory) (m k : List ℕ) (c : Call) {m′ k′ : List ℕ} {r : Answer} → refusal d m k c ≡ 0 → Accepts c d m k r m′ k′
     → (r ≡ answer d m k c) × (m′ ≡ memoryAfter d m k c) × (k′ ≡ cacheAfter d m k c)
-unfolding acted answer memoryAfter cacheAfter
+unfolding acted answerOf answer memoryAfter cacheAfter
 accepts d m k c z h =
     let t : act c (ready d m k) ≡ after d m k c = sym (after-accepted d m k c z) in
     let v = ap (loaded c) t ∙ sym (value-accepted d m k c z) in (
@@ -57,7 +57,7 @@ accepts d m k c z h =
 pub refuses : (d : Directory) (m k : List ℕ) (c : Call) {n : ℕ} {r : Answer}
     → n ≡ refusal d m k c → (n ≡ 0 → ⊥) → r ≡ answerOf n 0 (packed []) d
     → (r ≡ answer d m k c) × (m ≡ memoryAfter d m k c) × (k ≡ cacheAfter d m k c)
-unfolding ready answer memoryAfter cacheAfter
+unfolding ready answerOf answer memoryAfter cacheAfter
 refuses d m k c e n r =
     let z : refusal d m k c ≡ 0 → ⊥ = λ q. n (e ∙ q) in
     let t : ready d m k ≡ after d m k c = sym (after-refused d m k c z) in

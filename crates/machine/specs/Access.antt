@@ -28,7 +28,8 @@ pub record Sized (m k : List ℕ) : Type 0 where
 
 -- ---- orders
 
-abbrev pub order : ℕ → Command → ℕ → Bool → Order
+-- an order by its parts
+unfoldable pub order : ℕ → Command → ℕ → Bool → Order
 order u k b retried = record { unit = u; command = k; block = b; retried = retried }
 
 -- emptying
@@ -72,7 +73,7 @@ fetchedDirectory n b v d = setSlot (yieldedDirectory b v d) n (Shared b)
 -- ---- the whole access
 
 -- an answer by its parts
-abbrev pub answerOf : ℕ → ℕ → Orders → Directory → Answer
+unfoldable pub answerOf : ℕ → ℕ → Orders → Directory → Answer
 answerOf r v o d = record { refusal = r; value = v; orders = o; directory = d }
 
 -- the machine after the call c, which is not refused, on the directory d, the memory store m and the cache store k

@@ -1,7 +1,7 @@
 -- `machine::access::ask_orders` meets its contract.
 use borrow.Author.Needs.{needs}
 use borrow.Author.Tests.{lt-ltb, le-ltb}
-use Rattle.machine.specs.Access.{askOrders}
+use Rattle.machine.specs.Access.{order, askOrders}
 use Rattle.coherence.specs.Calls.{packed}
 use Rattle.machine.proofs.access.ask_orders.Statement.{statement}
 use Rattle.machine.proofs.access.ask_orders.Tie as tie
@@ -13,11 +13,11 @@ one-order-requires : tie.Need-one-order-requires
 one-order-requires c κs = search needs
 
 returns : tie.Need-returns
-unfolding packed askOrders
+unfolding packed askOrders order
 returns c = rw (lt-ltb _ _ (c .before .if1 .taken), c .no-order .ensures)
 
 returns-2 : tie.Need-returns-2
-unfolding askOrders
+unfolding askOrders order
 returns-2 c = rw (le-ltb _ _ (c .before .if1 .left)) (c .one-order .ensures)
 
 pub ask-orders-spec : {M : Type 1} → statement M

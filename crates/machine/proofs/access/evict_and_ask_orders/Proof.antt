@@ -1,7 +1,7 @@
 -- `machine::access::evict_and_ask_orders` meets its contract.
 use borrow.Author.Needs.{needs}
 use borrow.Author.Tests.{lt-ltb, le-ltb}
-use Rattle.machine.specs.Access.{askOrders}
+use Rattle.machine.specs.Access.{order, askOrders}
 use Rattle.coherence.specs.Calls.{packed}
 use Rattle.machine.proofs.access.evict_and_ask_orders.Statement.{statement}
 use Rattle.machine.proofs.access.evict_and_ask_orders.Tie as tie
@@ -10,11 +10,11 @@ no-order-requires : tie.Need-no-order-requires
 no-order-requires c κs = search needs
 
 returns : tie.Need-returns
-unfolding packed askOrders
+unfolding packed askOrders order
 returns c = rw (lt-ltb _ _ (c .if1 .taken))
 
 returns-2 : tie.Need-returns-2
-unfolding packed askOrders
+unfolding packed askOrders order
 returns-2 c = rw (le-ltb _ _ (c .before .if1 .left), c .no-order .ensures)
 
 pub evict-and-ask-orders-spec : {M : Type 1} → statement M
