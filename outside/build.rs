@@ -1,4 +1,4 @@
-//! With the feature `archive`: where the linker finds libcapi.a.
+//! With the feature `archive`: where the linker finds the two archives.
 use std::path::Path;
 
 fn main() {
@@ -8,7 +8,9 @@ fn main() {
     }
     let root = std::env::var("CARGO_MANIFEST_DIR").expect("cargo sets CARGO_MANIFEST_DIR");
     let folder = Path::new(&root).join("../target/staticlib");
-    println!("cargo:rerun-if-changed={}", folder.join("libcapi.a").display());
     println!("cargo:rustc-link-search=native={}", folder.display());
-    println!("cargo:rustc-link-lib=static=capi");
+    for archive in ["capi", "capi_message"] {
+        println!("cargo:rerun-if-changed={}", folder.join(format!("lib{archive}.a")).display());
+        println!("cargo:rustc-link-lib=static={archive}");
+    }
 }

@@ -1,9 +1,13 @@
-//! The proved library as C sees it (include/trainer.h), with slices in the place of pointers and lengths.
+//! The proved library as C sees it (include/trainer.h, include/trainer_message.h), with slices in the place of pointers and lengths.
 
 /// Numbers in the answer of a call: value, count of orders, and four orders of unit, command, block, retried.
 pub const ANSWER_NUMBERS: usize = 18;
 /// Numbers of a record: its kind and six fields, 0 where it has fewer.
 pub const RECORD_NUMBERS: usize = 7;
+/// Numbers of a receiver: 0 idle or 1 pending, sender, AID, byte count.
+pub const RECEIVER_NUMBERS: usize = 4;
+/// Numbers of a completion: 0 or 1, sender, AID, length.
+pub const COMPLETION_NUMBERS: usize = 4;
 
 mod foreign {
     extern "C" {
@@ -54,6 +58,24 @@ mod foreign {
             tape: *const u8, tape_size: usize,
             text: *mut u8, text_size: usize,
             written: *mut usize,
+        ) -> u32;
+        pub fn trainer_receive(
+            receiver: *mut u64, receiver_size: usize,
+            store: *mut u8, store_size: usize,
+            sequence: u32, sender: u32, aid: u32,
+            bytes: *const u8, bytes_size: usize,
+            completion: *mut u64, completion_size: usize,
+        ) -> u32;
+        pub fn trainer_divide(
+            message: *const u8, message_size: usize,
+            sender: u32, aid: u32,
+            operations: *mut usize,
+        ) -> u32;
+        pub fn trainer_operation(
+            message: *const u8, message_size: usize,
+            sender: u32, aid: u32,
+            index: usize,
+            sequence: *mut u32, offset: *mut usize, length: *mut usize,
         ) -> u32;
     }
 }
@@ -126,4 +148,24 @@ pub fn write_record(numbers: &[u64], space: &mut [u8], written: &mut usize) -> u
 
 pub fn drill(tape: &[u8], text: &mut [u8], written: &mut usize) -> u32 {
     unsafe { foreign::trainer_drill(tape.as_ptr(), tape.len(), text.as_mut_ptr(), text.len(), written) }
+}
+
+pub fn receive(receiver: &mut [u64], store: &mut [u8], sequence: u32, sender: u32, aid: u32, bytes: &[u8], completion: &mut [u64]) -> u32 {
+    unsafe {
+        foreign::trainer_receive(
+            receiver.as_mut_ptr(), receiver.len(),
+            store.as_mut_ptr(), store.len(),
+            sequence, sender, aid,
+            bytes.as_ptr(), bytes.len(),
+            completion.as_mut_ptr(), completion.len(),
+        )
+    }
+}
+
+pub fn divide(message: &[u8], sender: u32, aid: u32, operations: &mut usize) -> u32 {
+    unsafe { foreign::trainer_divide(message.as_ptr(), message.len(), sender, aid, operations) }
+}
+
+pub fn operation(message: &[u8], sender: u32, aid: u32, index: usize, sequence: &mut u32, offset: &mut usize, length: &mut usize) -> u32 {
+    unsafe { foreign::trainer_operation(message.as_ptr(), message.len(), sender, aid, index, sequence, offset, length) }
 }

@@ -1,9 +1,10 @@
-//! Document 01 in plain Rust, written from the paper alone: the cache machine, the tape and the drill.
+//! Documents 01 and 02 in plain Rust, written from the papers alone: the cache machine, the tape, the drill and the messages.
 //! It shares no code and no data structure with the proved crates, so that the differential test holds two
-//! separate readings of the paper against each other.
+//! separate readings of the papers against each other.
 #[cfg(feature = "archive")]
 pub mod archive;
 pub mod drill;
 pub mod machine;
+pub mod message;
 pub mod random;
 pub mod tape;

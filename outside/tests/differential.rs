@@ -1,33 +1,13 @@
 //! Holds the proved library, through its C interface, against the second implementation: every answer, every order, every byte of
 //! both stores, every refusal. The seeds are fixed; a difference ends the run with a failure.
+mod common;
+
+use common::{code_of, same, Counts};
 use outside::archive::{self, ANSWER_NUMBERS, RECORD_NUMBERS};
 use outside::drill::{drill, LONGEST_TAPE};
 use outside::machine::{Call, Machine, Newest, Reply, DIRECTORY_BYTES, STORE_BYTES};
 use outside::random::Random;
 use outside::tape::{self, Found, Record};
-use std::collections::BTreeMap;
-use std::fmt::Debug;
-
-/// How often each thing was compared, and how often each number came back.
-#[derive(Default)]
-struct Counts {
-    compared: BTreeMap<&'static str, u64>,
-    codes: BTreeMap<(&'static str, u32), u64>,
-}
-
-impl Counts {
-    fn one(&mut self, what: &'static str, code: u32) {
-        *self.compared.entry(what).or_default() += 1;
-        *self.codes.entry((what, code)).or_default() += 1;
-    }
-}
-
-fn same<T: PartialEq + Debug>(what: &str, context: &dyn Debug, proved: T, outside: T) {
-    if proved != outside {
-        println!("DIFFERENCE in {what}\nof {context:02x?}\nproved:  {proved:02x?}\noutside: {outside:02x?}");
-        std::process::exit(1);
-    }
-}
 
 const UNTOUCHED: u32 = 0xA5A5_A5A5;
 
@@ -43,10 +23,6 @@ fn answer_after(reply: &Result<Reply, u32>, space: usize) -> Vec<u32> {
         }
     }
     numbers
-}
-
-fn code_of<T>(result: &Result<T, u32>) -> u32 {
-    result.as_ref().err().copied().unwrap_or(0)
 }
 
 /// The proved machine's state as a caller holds it.
@@ -405,7 +381,7 @@ fn tapes(counts: &mut Counts) {
         let numbers: Vec<u64> = random_numbers(&mut random).into_iter().chain([0]).collect();
         let size = random.pick(&[0, 1, 6, 7, 8]);
         write_both(counts, &mut random, &numbers[..size], 40);
-        *counts.compared.entry("tapes").or_default() += 1;
+        counts.seen("tapes");
     }
 }
 
@@ -460,10 +436,5 @@ fn main() {
     let calls: u64 = ["loads", "stores", "flushes"].iter().map(|what| counts.compared[what]).sum();
     println!("compared, with no difference:");
     println!("  {calls} calls");
-    for (what, count) in &counts.compared {
-        let codes: Vec<String> =
-            counts.codes.iter().filter(|((w, _), _)| w == what).map(|((_, code), n)| format!("{code}: {n}")).collect();
-        let codes = if codes.is_empty() { String::new() } else { format!(" (by number of refusal: {})", codes.join(", ")) };
-        println!("  {count} {what}{codes}");
-    }
+    counts.print();
 }

@@ -11,7 +11,8 @@ use borrow.Author.Tests.{le-leb, lt-leb, eqb-true}
 use Rattle.coherence.specs.declared.Call.{Call}
 use Rattle.coherence.specs.declared.Answer.{Answer}
 use Rattle.coherence.specs.declared.Directory.{Directory}
-use Rattle.coherence.specs.Refusal.{sized, firstRefusal, sizeTest, directoryTest, callRefusal}
+use Rattle.order.specs.Refusal.{firstRefusal}
+use Rattle.coherence.specs.Refusal.{sized, sizeTest, directoryTest, callRefusal}
 use Rattle.coherence.specs.Access.{ready}
 use Rattle.coherence.specs.Slots.{sound}
 use Rattle.coherence.specs.Calls.{refusal, after, answer, memoryAfter, cacheAfter, unitOf, isTarget}

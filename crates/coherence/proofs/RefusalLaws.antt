@@ -9,7 +9,8 @@ use lib.Dec.{eqb}
 use borrow.Author.Tests.{eqb-true, eq-eqb}
 use Rattle.coherence.specs.declared.Directory.{Directory}
 use Rattle.coherence.specs.Slots.{sound}
-use Rattle.coherence.specs.Refusal.{firstRefusal, sized, isUnit, isBlock, sizeTest, directoryTest, unitTest, targetTest, callRefusal, startRefusal, peekRefusal}
+use Rattle.order.specs.Refusal.{firstRefusal}
+use Rattle.coherence.specs.Refusal.{sized, isUnit, isBlock, sizeTest, directoryTest, unitTest, targetTest, callRefusal, startRefusal, peekRefusal}
 use Rattle.coherence.proofs.Below.{both}
 
 -- ---- the numbers in their order

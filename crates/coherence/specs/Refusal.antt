@@ -1,10 +1,10 @@
 -- Document 01, "Numbers of refusal": the tests of the machine's calls, each with its number, and their order.
 use Prim.Native.Nat.{ℕ, _%_}
-use mathlib.Core.Bool.{Bool, cond, _&&_}
+use mathlib.Core.Bool.{Bool, _&&_}
 use mathlib.Core.List.{List, [], _∷_}
 use lib.ListN.{length}
 use lib.Dec.{leb, eqb}
-use Rattle.order.specs.Refusal.{accepted, wrongSize, brokenDirectory, noUnit, badAddress}
+use Rattle.order.specs.Refusal.{wrongSize, brokenDirectory, noUnit, badAddress, Test, firstRefusal}
 use Rattle.coherence.specs.declared.Directory.{Directory}
 use Rattle.coherence.specs.Bytes.{storeSize}
 use Rattle.coherence.specs.Slots.{lastUnit, lastBlock, sound}
@@ -12,16 +12,6 @@ use Rattle.coherence.specs.Slots.{lastUnit, lastBlock, sound}
 -- "not a multiple of 4, or above 2,044"
 abbrev pub lastAddress : ℕ
 lastAddress = 2044
-
--- a test, and the number that is given where it does not pass
-pub record Test : Type 0 where
-  pub passes : Bool
-  pub number : ℕ
-
--- the number of the first test that does not pass; 0 where all pass
-unfoldable pub firstRefusal : List Test → ℕ
-firstRefusal [] = accepted
-firstRefusal (t ∷ ts) = cond (t .passes) (firstRefusal ts) (t .number)
 
 -- the memory store m and the cache store k have their size
 unfoldable pub sized : List ℕ → List ℕ → Bool

@@ -13,7 +13,8 @@ use Rattle.coherence.specs.declared.Call.{Call}
 use Rattle.coherence.specs.declared.Directory.{Directory}
 use Rattle.coherence.specs.declared.Start.{Start}
 use Rattle.coherence.specs.Slots.{coldDirectory}
-use Rattle.coherence.specs.Refusal.{startRefusal, firstRefusal, sizeTest, sized}
+use Rattle.order.specs.Refusal.{firstRefusal}
+use Rattle.coherence.specs.Refusal.{startRefusal, sizeTest, sized}
 use Rattle.coherence.specs.Calls.{startAnswer, cacheStarted, answers, answersCold}
 use Rattle.text.specs.Space.{placed}
 use Rattle.text.proofs.SpaceLaws.{placed-room, placed-none}

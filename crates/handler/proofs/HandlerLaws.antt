@@ -6,7 +6,7 @@ use mathlib.Core.Logic.{_↔_}
 use mathlib.Core.Option.{none, some}
 use native.Mathlib.Omega.{arith}
 use borrow.Author.Tests.{ne-eqb}
-use Rattle.order.specs.Refusal.{accepted, badHandlerState}
+use Rattle.order.specs.Refusal.{accepted, badState}
 use Rattle.handler.specs.declared.Class.{Class}
 use Rattle.handler.specs.declared.Class.the-variants.{High, Low}
 use Rattle.handler.specs.declared.State.{State}
@@ -47,7 +47,7 @@ module _ (s : State) (high low : ℕ) (lck : Bool) where
 
   -- a refused call gives number 10 and nobody the bus, and leaves the state
   pub refused-leaves : allowed s high low ≡ false →
-      (arbitration s high low lck .refusal ≡ badHandlerState) × (arbitration s high low lck .grant ≡ Nobody) × (arbitration s high low lck .state ≡ s)
+      (arbitration s high low lck .refusal ≡ badState) × (arbitration s high low lck .grant ≡ Nobody) × (arbitration s high low lck .state ≡ s)
   unfolding arbitration refused
   refused-leaves e = rw e (refl, refl, refl)
 

@@ -4,7 +4,7 @@ use Prim.Native.Nat.{ℕ, zero, suc, _+_, _-_, _/_, _%_, _^_}
 use mathlib.Core.Bool.{Bool, true, false, cond, _&&_}
 use mathlib.Core.Option.{Option, none, some}
 use lib.Dec.{eqb, leb}
-use Rattle.order.specs.Refusal.{accepted, badHandlerState}
+use Rattle.order.specs.Refusal.{accepted, badState}
 use Rattle.handler.specs.declared.Class.{Class}
 use Rattle.handler.specs.declared.Class.the-variants.{High, Low}
 use Rattle.handler.specs.declared.Lock.{Lock}
@@ -111,7 +111,7 @@ unfoldable pub allowed : State → ℕ → ℕ → Bool
 allowed s high low = leb high 255 && leb low 255 && stateAllowed s
 
 unfoldable pub refused : State → Arbitration
-refused s = record { refusal = badHandlerState; grant = Nobody; state = s }
+refused s = record { refusal = badState; grant = Nobody; state = s }
 
 -- one call: the state, RQH, RQL, and whether LCK is asserted
 unfoldable pub arbitration : State → ℕ → ℕ → Bool → Arbitration

@@ -1,5 +1,5 @@
 // The bus handler: which unit the bus is granted to, and the lock (document 01, "The bus handler").
-use order::BAD_HANDLER_STATE;
+use order::BAD_STATE;
 ghost use mathlib.Core.Path.{_≡_};
 ghost use mathlib.Core.Bool.{true};
 ghost use Prim.Native.Nat.{_≤_};
@@ -60,7 +60,7 @@ pub fn arbitrate(state: State, high: u16, low: u16, lck: bool) -> Arbitration
         grant_next(high, low, locked)
     } else {
         Arbitration {
-            refusal: BAD_HANDLER_STATE,
+            refusal: BAD_STATE,
             grant: Grant::Nobody,
             state: state,
         }

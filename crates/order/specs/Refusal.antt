@@ -1,5 +1,8 @@
--- The numbers of refusal and their names (document 01, "Numbers of refusal"). 0 says that nothing was refused.
+-- The numbers of refusal and their names (document 01, "Numbers of refusal"; 11 and 12 from document 02, T-01), and tests in their order. 0 says that
+-- nothing was refused.
 use Prim.Native.Nat.{ℕ}
+use mathlib.Core.Bool.{Bool, cond}
+use mathlib.Core.List.{List, [], _∷_}
 
 abbrev pub accepted : ℕ
 accepted = 0
@@ -31,5 +34,22 @@ fieldRange = 8
 abbrev pub noRoom : ℕ
 noRoom = 9
 
-abbrev pub badHandlerState : ℕ
-badHandlerState = 10
+-- of the handler's state, and of a receiver's
+abbrev pub badState : ℕ
+badState = 10
+
+abbrev pub otherSource : ℕ
+otherSource = 11
+
+abbrev pub outOfTurn : ℕ
+outOfTurn = 12
+
+-- a test, and the number that is given where it does not pass
+pub record Test : Type 0 where
+  pub passes : Bool
+  pub number : ℕ
+
+-- the number of the first test that does not pass; 0 where all pass
+unfoldable pub firstRefusal : List Test → ℕ
+firstRefusal [] = accepted
+firstRefusal (t ∷ ts) = cond (t .passes) (firstRefusal ts) (t .number)

@@ -21,7 +21,14 @@ pub const FIELD_RANGE: u8 = 8;
 
 pub const NO_ROOM: u8 = 9;
 
-pub const BAD_HANDLER_STATE: u8 = 10;
+// Document 01's "bad handler state"; a message receiver's state too.
+pub const BAD_STATE: u8 = 10;
+
+// Document 02, T-01: an operation of another sender, or with another AID, than the message that is being received.
+pub const OTHER_SOURCE: u8 = 11;
+
+// Document 02, T-01: an operation that starts a message within another, or goes on with none.
+pub const OUT_OF_TURN: u8 = 12;
 
 // What an order asks of the bus.
 pub enum Command {

@@ -1,6 +1,7 @@
 //! The benchmark: each call of the proved library beside plain Rust with the same checks, on the same inputs, in one run.
 //! "Rust, same work" decodes and encodes the directory as the proved side does; "Rust, in place" works on its bytes.
 //! Each figure is the least of many rounds, in nanoseconds for one operation; the two sides take turns.
+mod messages;
 mod packed;
 mod records;
 mod typed;
@@ -186,6 +187,72 @@ fn tape_rows() {
     row(&format!("drill of {} bytes, for each of its {} records", tape.len(), full.len()), proved, rust, None);
 }
 
+/// A receiver with its store and the space for completions, as a caller holds them.
+#[derive(Clone, PartialEq)]
+struct Inbox {
+    receiver: [u64; 4],
+    store: [u8; 4096],
+    completion: [u64; 4],
+}
+
+/// An operation: sequence, sender, AID, bytes.
+type Part<'a> = (u32, u32, u32, &'a [u8]);
+
+/// Every operation, in order, to one receiver; gives a sum that depends on every answer. The sizes of what is lent are hidden from the compiler.
+fn receive_all(inbox: &mut Inbox, operations: &[Part], receive: impl Fn(&mut [u64], &mut [u8], u32, u32, u32, &[u8], &mut [u64]) -> u32) -> u64 {
+    let Inbox { receiver, store, completion } = inbox;
+    let (receiver, store, completion) = black_box((&mut receiver[..], &mut store[..], &mut completion[..]));
+    let mut sum = 0;
+    for &(sequence, sender, aid, bytes) in operations {
+        let code = receive(receiver, store, sequence, sender, aid, bytes, completion);
+        sum += u64::from(code) + receiver[3] + completion[3] + u64::from(store[0]);
+    }
+    sum
+}
+
+fn receiver_row(name: &str, operations: &[Part]) {
+    let repeat = 40_000 / operations.len();
+    let idle = Inbox { receiver: [0; 4], store: [0; 4096], completion: [0; 4] };
+    let mut inboxes = [idle.clone(), idle];
+    let [proved, rust] = measure::<2>(repeat * operations.len(), |n| {
+        let once = |inbox: &mut Inbox| {
+            let operations = black_box(operations);
+            if n == 0 { receive_all(inbox, operations, archive::receive) } else { receive_all(inbox, operations, messages::trainer_receive) }
+        };
+        (0..repeat).map(|_| once(&mut inboxes[n])).sum()
+    });
+    assert!(inboxes[0] == inboxes[1], "the sides left different inboxes");
+    row(name, proved, rust, None);
+}
+
+/// Every operation of a message as the sender cuts it.
+fn cut_all(message: &[u8], (sender, aid): (u32, u32), operation: impl Fn(&[u8], u32, u32, usize, &mut u32, &mut usize, &mut usize) -> u32) -> u64 {
+    let mut sum = 0;
+    for index in 0..message.len().div_ceil(256) {
+        let (mut sequence, mut offset, mut length) = (0, 0, 0);
+        let code = operation(message, sender, aid, index, &mut sequence, &mut offset, &mut length);
+        sum += u64::from(code + sequence) + (offset + length) as u64;
+    }
+    sum
+}
+
+fn message_rows() {
+    let mut random = Random::new(99);
+    let message: Vec<u8> = (0..4096).map(|_| random.byte()).collect();
+    let parts: Vec<Part> = message.chunks(256).enumerate().map(|(n, part)| (if n == 0 { 1 } else if n == 15 { 3 } else { 2 }, 3, 17, part)).collect();
+    receiver_row("receive, 256 bytes: messages of 4,096 bytes", &parts);
+    let singles: Vec<Part> = message.chunks(8).map(|part| (0, random.below(8), random.below(256), part)).collect();
+    receiver_row("receive, 8 bytes: Single", &singles);
+    let mixed: Vec<Part> = (0..500).map(|_| (0, 3, 17, &message[..1 + random.below(256) as usize])).collect();
+    receiver_row("receive, 1 to 256 bytes at random: Single", &mixed);
+    let repeat = 2_500;
+    let [proved, rust] = measure::<2>(16 * repeat, |n| {
+        let once = |message: &[u8], party| if n == 0 { cut_all(message, party, archive::operation) } else { cut_all(message, party, messages::trainer_operation) };
+        (0..repeat).map(|_| once(black_box(&message), black_box((3, 17)))).sum()
+    });
+    row("operation, of a message of 4,096 bytes", proved, rust, None);
+}
+
 /// The loop of the program `mix` in plain Rust: five million loads and stores with their tests, and no boundary around them.
 fn mix(load: impl Fn(u32, u32) -> u32, store: impl Fn(u32, u32, u32)) -> u32 {
     let (mut sum, mut x) = (0u32, 12345u32);
@@ -281,6 +348,7 @@ fn main() {
         .collect();
     calls_row("random loads and stores", &[], &mix);
     tape_rows();
+    message_rows();
     match std::env::args().nth(1) {
         Some(program) => mix_row(&program),
         None => println!("(give the built program mix as the argument to time it too)"),
