@@ -1,2 +1,3 @@
+-- The laws of commands and of refusals.
 pub mod CommandLaws
 pub mod RefusalLaws
