@@ -1,5 +1,4 @@
 -- Laws that several functions' proofs share.
-mod Faults
 mod Sets
 mod Claims
 mod Copies

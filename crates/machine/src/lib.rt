@@ -12,7 +12,6 @@ ghost use Rattle.coherence.specs.Peek.{peeked, peekFromCache, peekOffset};
 mod access;
 mod block;
 mod directory;
-mod refusal;
 
 use access::flush_block;
 use access::load_word;
@@ -25,7 +24,6 @@ use coherence::Call;
 use coherence::Directory;
 use coherence::Start;
 use directory::cold_directory;
-use directory::is_sound;
 use directory::owner;
 use directory::place_of;
 use order::BAD_ADDRESS;
@@ -33,6 +31,7 @@ use order::BROKEN_DIRECTORY;
 use order::WRONG_SIZE;
 use refusal::is_address;
 use refusal::is_sized;
+use refusal::is_sound;
 use refusal::refusal_of;
 
 // All slots invalid, and the cache store all zeros. Refused, it leaves the cache store as it was.

@@ -3,5 +3,4 @@ pub mod Number
 pub mod Field
 pub mod Record
 pub mod Write
-pub mod Reader
 pub mod RoundTrip

@@ -1,0 +1,2 @@
+-- Laws that the test of the directory rests on.
+mod Faults

@@ -1,0 +1,44 @@
+-- How the code tests the directory: the faults of the four units' slots of one slot number, and their sum. The rules themselves are `coherence`'s; `Faults`
+-- proves that there is no fault exactly where they hold.
+use Prim.Native.Nat.{ℕ, zero, suc, _+_, _%_}
+use mathlib.Core.Bool.{cond}
+use lib.Dec.{ltb, eqb}
+use Rattle.coherence.specs.declared.Slot.{Slot}
+use Rattle.coherence.specs.declared.Slot.the-variants.{Invalid, Shared, Modified}
+
+-- 0 invalid, 1 shared, 2 modified
+unfoldable pub rankOf : Slot → ℕ
+rankOf Invalid = 0
+rankOf (Shared b) = 1
+rankOf (Modified b) = 2
+
+-- the block of a valid slot, else s
+unfoldable pub blockOr : Slot → ℕ → ℕ
+blockOr Invalid s = s
+blockOr (Shared b) s = b
+blockOr (Modified b) s = b
+
+-- 1 where block b may not stand in slot s of a unit, else 0
+unfoldable pub misplacedIn : ℕ → ℕ → ℕ
+misplacedIn b s = cond (ltb b 64) (cond (eqb (b % 16) s) 0 1) 1
+
+-- 1 where two slots of the ranks t and v have one block, and one is modified and the other valid, else 0
+unfoldable pub conflictOf : ℕ → ℕ → ℕ → ℕ → ℕ
+conflictOf b t c v = cond (eqb b c) (cond (ltb (t + v) 3) 0 1) 0
+
+-- the faults of one slot s, and of two units' slots s together
+unfoldable pub placeFaults : ℕ → Slot → ℕ
+placeFaults s x = misplacedIn (blockOr x s) s
+
+unfoldable pub pairFaults : ℕ → Slot → Slot → ℕ
+pairFaults s x y = conflictOf (blockOr x s) (rankOf x) (blockOr y s) (rankOf y)
+
+-- how many rules the slots s of the four units break
+unfoldable pub faultsOf : ℕ → Slot → Slot → Slot → Slot → ℕ
+faultsOf s w x y z =
+    placeFaults s w + placeFaults s x + placeFaults s y + placeFaults s z
+    + pairFaults s w x + pairFaults s w y + pairFaults s w z + pairFaults s x y + pairFaults s x z + pairFaults s y z
+
+unfoldable pub sumBelow : ℕ → (ℕ → ℕ) → ℕ
+sumBelow zero f = 0
+sumBelow (suc n) f = sumBelow n f + f n

@@ -1,0 +1,2 @@
+-- A reader's place.
+pub mod Reader
