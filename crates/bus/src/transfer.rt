@@ -1,4 +1,4 @@
-// The signals of one transfer (4.1).
+// The signals of one transfer (4.1), which may be locked (4.6).
 use order::FIELD_RANGE;
 ghost use mathlib.Core.Path.{_≡_};
 ghost use Rattle.bus.specs.Transfer.{planOf, refusedPlan};
@@ -24,8 +24,8 @@ fn refused() -> SignalPlan
     }
 }
 
-pub fn plan(cycles: u32, cycle: u32) -> SignalPlan
-    ensures { λ r. ⌜ r ≡ planOf cycles cycle ⌝ }
+pub fn plan(cycles: u32, cycle: u32, locked: bool) -> SignalPlan
+    ensures { λ r. ⌜ r ≡ planOf cycles cycle locked ⌝ }
 {
     if 64 < cycles {
         return refused();
@@ -43,6 +43,6 @@ pub fn plan(cycles: u32, cycle: u32) -> SignalPlan
         bs: cycle == 1,
         bur: next <= cycles,
         et: after <= cycles,
-        et_at_request: 2 <= cycles,
+        et_at_request: (2 <= cycles) | locked,
     }
 }

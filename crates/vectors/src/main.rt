@@ -1,5 +1,5 @@
-// Runs values of document 01 through the public calls and prints a line for each: the inputs, then the answer. The file `stdout` beside
-// src/ says what must be printed; it was written by hand from document 01, whose sentences stand beside each table of inputs.
+// Runs values of document 01, and of document 02 where it amends 01, through the public calls and prints a line for each: the inputs, then the answer. The
+// file `stdout` beside src/ says what must be printed; it was written by hand from the documents, whose sentences stand beside each table of inputs.
 mod caches;
 mod drills;
 mod grants;

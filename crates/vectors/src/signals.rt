@@ -55,7 +55,8 @@ fn lanes(row: [u32; 2]) {
     line();
 }
 
-// "A transfer has n cycles, 1 to 64; else refusal 8", "Cycle 0 or above n: refusal 8", and the levels at each end: n and the cycle.
+// "A transfer has n cycles, 1 to 64; else refusal 8", "Cycle 0 or above n: refusal 8", and the levels at each end: n and the cycle. Each is planned unlocked
+// and locked: "ET at the request is raised exactly when n is 2 or more or the transfer is locked" (document 02, T-02).
 const PLANS: [[u32; 2]; 14] = [
     [0, 0],
     [0, 1],
@@ -73,18 +74,24 @@ const PLANS: [[u32; 2]; 14] = [
     [65, 1],
 ];
 
-fn plan(row: [u32; 2]) {
+fn plan_line(row: [u32; 2], locked: bool) {
     let cycles = row[0];
     let cycle = row[1];
     number(b"plan ", cycles as u64);
     number(b" ", cycle as u64);
-    let found = bus::transfer::plan(cycles, cycle);
+    level(b" locked", locked);
+    let found = bus::transfer::plan(cycles, cycle, locked);
     number(b": refusal ", found.refusal as u64);
     level(b" BS", found.bs);
     level(b" BUR", found.bur);
     level(b" ET", found.et);
     level(b" request-ET", found.et_at_request);
     line();
+}
+
+fn plan(row: [u32; 2]) {
+    plan_line(row, false);
+    plan_line(row, true);
 }
 
 // The first and the last code of each row of "Answer codes".

@@ -1,7 +1,7 @@
 -- Document 01, "Values to try": those marked P, together as one statement about the definitions that the contracts cite.
 use Prim.Native.Nat.{ℕ, _+_, _*_, _%_, _^_}
 use mathlib.Core.Path.{_≡_}
-use mathlib.Core.Bool.{true, false}
+use mathlib.Core.Bool.{Bool, true, false}
 use mathlib.Core.List.{List, [], _∷_, map}
 use mathlib.Core.Option.{some}
 use lib.ListN.{replicate}
@@ -65,11 +65,11 @@ pub record Worked : Type 0 where
   pub p5 : lanesOf 1 7 .words ≡ 2
   -- codes 63, 64, 127, 128, 191, 192
   pub p6 : (map classOf codes ≡ classes) × (map codeOf classes ≡ map Code codes) × (map isError codes ≡ false ∷ false ∷ false ∷ true ∷ true ∷ true ∷ [])
-  -- n = 1: no BUR, no ET at all
-  pub p7 : planOf 1 1 ≡ record { refusal = 0; bs = true; bur = false; et = false; «et_at_request» = false }
+  -- n = 1, unlocked (document 02, T-02): no BUR, no ET at all
+  pub p7 : planOf 1 1 false ≡ record { refusal = 0; bs = true; bur = false; et = false; «et_at_request» = false }
   -- n = 3: BUR in 1, 2; ET in 1
-  pub p8 :
-      map (planOf 3) (1 ∷ 2 ∷ 3 ∷ [])
+  pub p8 : (locked : Bool)
+      → map (λ cycle. planOf 3 cycle locked) (1 ∷ 2 ∷ 3 ∷ [])
       ≡ record { refusal = 0; bs = true; bur = true; et = true; «et_at_request» = true }
       ∷ record { refusal = 0; bs = false; bur = true; et = false; «et_at_request» = true }
       ∷ record { refusal = 0; bs = false; bur = false; et = false; «et_at_request» = true }
