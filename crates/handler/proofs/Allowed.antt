@@ -9,7 +9,7 @@ use Rattle.handler.specs.declared.Class.the-variants.{High, Low}
 use Rattle.handler.specs.declared.Lock.{Lock}
 use Rattle.handler.specs.declared.Lock.the-variants.{Free, Owner}
 use Rattle.handler.specs.declared.State.{State}
-use Rattle.handler.specs.Handler.{lastUnit, requests, lockNext, locked, moved, lockAllowed, stateAllowed, allowed}
+use Rattle.handler.specs.Handler.{lastUnit, requests, lockNext, locked, moved, lockAllowed, stateAllowed, setsAllowed, allowed}
 
 -- both tests of a conjunction hold
 both : (a b : Bool) → a && b ≡ true → (a ≡ true) × (b ≡ true)
@@ -73,8 +73,8 @@ moved-allowed c u s l ok = state-allowed (moved c u s) (lasts′ c) (held c)
 
 module _ (s : State) (high low : ℕ) (ok : allowed s high low ≡ true) where
   sets : leb high 255 && leb low 255 ≡ true
-  unfolding allowed
-  sets = both (leb high 255 && leb low 255) (stateAllowed s) ok .0
+  unfolding allowed setsAllowed
+  sets = both (setsAllowed high low) (stateAllowed s) ok .0
 
   pub requests-allowed : (c : Class) → requests c high low ≤ 255
   unfolding requests
@@ -83,9 +83,9 @@ module _ (s : State) (high low : ℕ) (ok : allowed s high low ≡ true) where
 
   pub call-state-allowed : stateAllowed s ≡ true
   unfolding allowed
-  call-state-allowed = both (leb high 255 && leb low 255) (stateAllowed s) ok .1
+  call-state-allowed = both (setsAllowed high low) (stateAllowed s) ok .1
 
 -- the request sets and the state make an accepted call
 pub call-allowed : (s : State) (high low : ℕ) → ((c : Class) → requests c high low ≤ 255) → stateAllowed s ≡ true → allowed s high low ≡ true
-unfolding allowed requests
+unfolding allowed setsAllowed requests
 call-allowed s high low r ok = rw (le-leb high 255 (r High), le-leb low 255 (r Low)) ok

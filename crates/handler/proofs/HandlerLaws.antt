@@ -14,19 +14,16 @@ use Rattle.handler.specs.declared.Grant.{Grant}
 use Rattle.handler.specs.declared.Grant.the-variants.{Nobody, To}
 use Rattle.handler.specs.declared.Arbitration.{Arbitration}
 use Rattle.handler.specs.Handler.{lastUnit, ownerOf, requests, contains, unitGranted, lockNext, locked, distance, firstMet, granted, nobody, byTurn, grantNext, lockAllowed, stateAllowed, allowed, refused, arbitration, initial}
-use Rattle.handler.proofs.StateParts.{unit-granted, granted-same, granted-other, not-granted, owner-of, no-owner, lock-within, last-moved, last-kept, lock-moved, last-locked}
+use Rattle.handler.proofs.RoundRobin.{with-member}
+use Rattle.handler.proofs.StateParts.{unit-granted, granted-some, granted-same, granted-other, not-granted, owner-of, no-owner, lock-within, last-moved, last-kept, lock-moved, last-locked}
 use Rattle.handler.proofs.Allowed.{last-allowed, lock-allowed, owner-allowed, state-allowed, locked-allowed, moved-allowed, requests-allowed, call-state-allowed, call-allowed}
 use Rattle.handler.proofs.GrantCases.{Chosen, Ruling, refusing, granting, nothing-to-grant, ruling}
 
 module _ (s : State) (high low : ℕ) (lck : Bool) where
-  -- a call is accepted exactly when no request set is above 255, and no last unit and no lock owner above 7
-  pub accepted-exactly : (arbitration s high low lck .refusal ≡ accepted)
-      ↔ (((c : Class) → requests c high low ≤ 255) × ((c : Class) → lastUnit c s ≤ 7) × ((o : ℕ) → ownerOf (s .lock) ≡ some o → o ≤ 7))
+  -- the refusal is 0 exactly where the test passes
+  pub accepted-allowed : (arbitration s high low lck .refusal ≡ accepted) ↔ (allowed s high low ≡ true)
   unfolding refused granted nobody
-  accepted-exactly = (
-    λ e. within (tested (arbitration s high low lck) (ruling s high low lck) e),
-    λ w. untold (arbitration s high low lck) (ruling s high low lck) (call-allowed s high low (w .0) (state-allowed s (w .1) (lock-within (s .lock) (w .2)))),
-  )
+  accepted-allowed = (tested (arbitration s high low lck) (ruling s high low lck), untold (arbitration s high low lck) (ruling s high low lck))
     where
       tested : (a : Arbitration) → Ruling s high low lck a → a .refusal ≡ accepted → allowed s high low ≡ true
       tested _ (refusing _) e = absurd (omega arith)
@@ -38,6 +35,14 @@ module _ (s : State) (high low : ℕ) (lck : Bool) where
       untold _ (granting _ _ _ _) ok = refl
       untold _ (nothing-to-grant _ _ _ _) ok = refl
 
+  -- a call is accepted exactly when no request set is above 255, and no last unit and no lock owner above 7
+  pub accepted-exactly : (arbitration s high low lck .refusal ≡ accepted)
+      ↔ (((c : Class) → requests c high low ≤ 255) × ((c : Class) → lastUnit c s ≤ 7) × ((o : ℕ) → ownerOf (s .lock) ≡ some o → o ≤ 7))
+  accepted-exactly = (
+    λ e. within (accepted-allowed .0 e),
+    λ w. accepted-allowed .1 (call-allowed s high low (w .0) (state-allowed s (w .1) (lock-within (s .lock) (w .2)))),
+  )
+    where
       within : allowed s high low ≡ true → ((c : Class) → requests c high low ≤ 255) × ((c : Class) → lastUnit c s ≤ 7) × ((o : ℕ) → ownerOf (s .lock) ≡ some o → o ≤ 7)
       within ok = (
         requests-allowed s high low ok,
@@ -76,6 +81,10 @@ module _ (s : State) (high low : ℕ) (lck : Bool) where
   unfolding locked
   lock-then c u e = lock-first (chosen c u e .0)
 
+  -- only an accepted call grants, and only one of the eight units
+  pub granted-accepted : (c : Class) (u : ℕ) → unitGranted c (arbitration s high low lck .grant) ≡ some u → (allowed s high low ≡ true) × (u ≤ 7)
+  granted-accepted c u e = (chosen c u e .0, chosen c u e .1 .is-unit)
+
   -- a grant is a member of its set
   pub granted-asks : (c : Class) (u : ℕ) → unitGranted c (arbitration s high low lck .grant) ≡ some u → contains (requests c high low) u ≡ true
   granted-asks c u e = chosen c u e .1 .asks
@@ -112,6 +121,22 @@ module _ (s : State) (high low : ℕ) (lck : Bool) where
       on _ (refusing n) ok e = absurd (false≢true (sym n ∙ ok))
       on _ (granting c u _ _) ok e = let z : _≡_ {A = ℕ} 0 1 = cc in absurd (omega arith)
       on _ (nothing-to-grant _ hz held free) ok e = (hz, λ o l. held o (owner-of o _ l), λ l. free (no-owner _ l))
+
+  -- with a member in its set a class has its grant; the low class, where RQH is empty and no lock is held
+  pub asked-grants : (c : Class) (u : ℕ) → allowed s high low ≡ true → contains (requests c high low) u ≡ true →
+      (c ≡ Low → (high ≡ 0) × (ownerOf (arbitration s high low lck .state .lock) ≡ none)) → unitGranted c (arbitration s high low lck .grant) ≡ none → ⊥
+  unfolding granted nobody requests
+  asked-grants c u ok m = on (arbitration s high low lck) (ruling s high low lck) c m
+    where
+      on : (a : Arbitration) → Ruling s high low lck a → (c : Class) → contains (requests c high low) u ≡ true →
+          (c ≡ Low → (high ≡ 0) × (ownerOf (a .state .lock) ≡ none)) → unitGranted c (a .grant) ≡ none → ⊥
+      on _ (refusing n) c m f e = false≢true (sym n ∙ ok)
+      on _ (granting High v _ h) High m f e = granted-some High v e
+      on _ (granting Low v _ h) High m f e = with-member high u m (h .high-first refl)
+      on _ (granting High v _ h) Low m f e = with-member high v (h .asks) (f refl .0)
+      on _ (granting Low v _ h) Low m f e = granted-some Low v e
+      on _ (nothing-to-grant _ hz _ _) High m f e = with-member high u m hz
+      on _ (nothing-to-grant _ _ _ free) Low m f e = with-member low u m (free (no-owner _ (f refl .1)))
 
   -- a grant sets the last unit of its own class
   pub granted-sets : (c : Class) (u : ℕ) → unitGranted c (arbitration s high low lck .grant) ≡ some u → lastUnit c (arbitration s high low lck .state) ≡ u

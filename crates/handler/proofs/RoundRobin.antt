@@ -3,12 +3,12 @@ use Prim.Native.Nat.{ℕ, zero, suc, _+_, _-_, _/_, _%_, _^_, _<_, _≤_}
 use mathlib.Core.Path.{_≡_, refl, sym, _∙_, ap}
 use mathlib.Core.Bool.{Bool, true, false, cond, false≢true}
 use mathlib.Core.Logic.{⊎-elim}
-use native.Mathlib.Nat.{eq-or-lt-of-le}
+use native.Mathlib.Nat.{eq-or-lt-of-le, zero-div}
 use native.Mathlib.Decide.{decLt}
 use native.Mathlib.Numerals.{add-one}
 use native.Mathlib.Omega.{arith}
 use lib.Pow.{shr-shr}
-use borrow.Author.Tests.{eqb-false}
+use borrow.Author.Tests.{eqb-true, eqb-false}
 use Rattle.handler.specs.Handler.{contains, met, distance, passed, firstMet}
 
 -- the k-th unit met is at distance k, and a unit is met at its distance
@@ -28,6 +28,11 @@ met-unit last k = omega arith
 pub distance-small : (last u : ℕ) → distance last u ≤ 7
 unfolding distance
 distance-small last u = omega arith
+
+-- after a grant to another unit that was met no later, a unit is nearer than it was
+pub distance-falls : (last g u : ℕ) → last ≤ 7 → g ≤ 7 → u ≤ 7 → distance last g ≤ distance last u → (g ≡ u → ⊥) → distance g u < distance last u
+unfolding distance
+distance-falls last g u hl hg hu n d = omega arith
 
 -- the search at unit k of the eight
 pub passed-here : (set last k : ℕ) → k < 8 → contains set (met last k) ≡ true → passed (8 - k) set last k ≡ k
@@ -65,6 +70,14 @@ passed-others (suc n) set last k j a b = on (contains set (met last k)) refl (pa
         j < cond t k (passed n set last (k + 1)) → contains set (met last j) ≡ false
     on true e r l = absurd (omega arith)
     on false e r l = ⊎-elim (λ (q : k ≡ j). rw (← q) e) (λ (q : k < j). r (omega arith) l) (eq-or-lt-of-le a)
+
+-- a set that has a member isn't empty
+pub with-member : (set u : ℕ) → contains set u ≡ true → set ≡ 0 → ⊥
+unfolding contains
+with-member set u e z =
+    let q : set / 2 ^ u ≡ 0 = rw z (zero-div (2 ^ u)) in
+    let m : set / 2 ^ u % 2 ≡ 1 = eqb-true (set / 2 ^ u % 2) 1 e in
+    omega arith
 
 -- a set that has none of the eight units is empty
 pub without-units : (set : ℕ) → set ≤ 255 → ((u : ℕ) → u ≤ 7 → contains set u ≡ false) → set ≡ 0

@@ -1,8 +1,8 @@
 -- The parts of a grant, of a lock and of a state: what the definitions that read and set them have to do with each other.
 use Prim.Native.Nat.{ℕ, _≤_}
-use mathlib.Core.Path.{_≡_, refl}
+use mathlib.Core.Path.{_≡_, refl, sym, _∙_}
 use mathlib.Core.Bool.{Bool, true}
-use mathlib.Core.Option.{none, some}
+use mathlib.Core.Option.{none, some, Option·some-ne-none}
 use native.Mathlib.Omega.{arith}
 use borrow.Author.Tests.{le-leb}
 use Rattle.handler.specs.declared.Class.{Class}
@@ -19,6 +19,9 @@ pub unit-granted : (c : Class) (u : ℕ) → unitGranted c (To c u) ≡ some u
 unfolding unitGranted
 unit-granted High u = refl
 unit-granted Low u = refl
+
+pub granted-some : (c : Class) (u : ℕ) → unitGranted c (To c u) ≡ none → ⊥
+granted-some c u e = Option·some-ne-none u (sym (unit-granted c u) ∙ e)
 
 pub granted-same : (c d : Class) (u v : ℕ) → unitGranted c (To d u) ≡ some v → (d ≡ c) × (u ≡ v)
 unfolding unitGranted

@@ -107,8 +107,11 @@ lockAllowed (Owner u) = leb u 7
 unfoldable pub stateAllowed : State → Bool
 stateAllowed s = leb (s .«last_high») 7 && leb (s .«last_low») 7 && lockAllowed (s .lock)
 
+unfoldable pub setsAllowed : ℕ → ℕ → Bool
+setsAllowed high low = leb high 255 && leb low 255
+
 unfoldable pub allowed : State → ℕ → ℕ → Bool
-allowed s high low = leb high 255 && leb low 255 && stateAllowed s
+allowed s high low = setsAllowed high low && stateAllowed s
 
 unfoldable pub refused : State → Arbitration
 refused s = record { refusal = badState; grant = Nobody; state = s }

@@ -1,2 +1,3 @@
 -- The bus handler.
 pub mod Handler
+pub mod Waiting

@@ -29,6 +29,31 @@ const CALLS: [[u16; 6]; 15] = [
     [7, 7, 8, 0, 1, 1],
 ];
 
+// Document 02, T-09, a row for each call of one list, "each call getting what the last left": RQH, RQL, LCK. From a fresh handler, all units ask by RQH, and
+// unit 7 has the eighth grant. Then all ask by RQL, and unit 7 has the eighth low grant. After the first of these come a refused call, a high grant
+// under a lock, and a call under that lock that grants nobody: "High grants between don't count", and the others aren't grants.
+const LIST: [[u16; 3]; 19] = [
+    [255, 0, 0],
+    [255, 0, 0],
+    [255, 0, 0],
+    [255, 0, 0],
+    [255, 0, 0],
+    [255, 0, 0],
+    [255, 0, 0],
+    [255, 0, 0],
+    [0, 255, 0],
+    [256, 0, 0],
+    [1, 128, 1],
+    [0, 128, 1],
+    [0, 255, 0],
+    [0, 255, 0],
+    [0, 255, 0],
+    [0, 255, 0],
+    [0, 255, 0],
+    [0, 255, 0],
+    [0, 255, 0],
+];
+
 fn show(state: State) {
     number(b" last ", state.last_high as u64);
     number(b" ", state.last_low as u64);
@@ -61,7 +86,7 @@ fn lock_of(owner: u8) -> Lock {
     }
 }
 
-fn call(state: State, high: u16, low: u16, lck: bool) {
+fn call(state: State, high: u16, low: u16, lck: bool) -> State {
     word(b"handler");
     show(state);
     number(b" RQH ", high as u64);
@@ -76,6 +101,7 @@ fn call(state: State, high: u16, low: u16, lck: bool) {
     let after = found.state;
     show(after);
     line();
+    after
 }
 
 fn row(values: [u16; 6]) {
@@ -94,5 +120,13 @@ pub(crate) fn run_grants() {
     line();
     for k in 0..15 {
         row(CALLS[k]);
+    }
+}
+
+pub(crate) fn run_list() {
+    let mut state = handler::fresh();
+    for k in 0..19 {
+        let values = LIST[k];
+        state = call(state, values[0], values[1], values[2] == 1);
     }
 }

@@ -14,6 +14,7 @@ fn main() {
     signals::run_codes();
     signals::run_classes();
     grants::run_grants();
+    grants::run_list();
     tapes::run_readings();
     tapes::run_writings();
     caches::run_starts();

@@ -24,7 +24,7 @@ use Rattle.coherence.specs.Calls.{answersCold}
 use Rattle.coherence.specs.Demand3.{ordersGiven, loads, stores}
 use Rattle.coherence.specs.Examples.{zeros, drillCalls}
 use Rattle.coherence.proofs.Examples.{examples}
-use Rattle.handler.specs.Handler.{lastUnit, contains, unitGranted, lockNext, locked, met, passed, firstMet, moved, granted, byTurn, lowGrant, grantNext, lockAllowed, stateAllowed, allowed as admits, arbitration, initial}
+use Rattle.handler.specs.Handler.{lastUnit, contains, unitGranted, lockNext, locked, met, passed, firstMet, moved, granted, byTurn, lowGrant, grantNext, lockAllowed, stateAllowed, setsAllowed, allowed as admits, arbitration, initial}
 use Rattle.worked.specs.Worked.{codes, classes, stored, firstTwo, ordersOfFirstTwo, zeroAndSeven, afterFirst, Worked}
 
 first-two : (ordersOfFirstTwo ≡ 4) × (loads firstTwo ≡ 1) × (stores firstTwo ≡ 1) × (ordersOfFirstTwo ≡ loads firstTwo + 3 * stores firstTwo)
@@ -36,7 +36,7 @@ first-two =
     (o, l, s, omega arith)
 
 pub worked : Worked
-unfolding within sumBelow bitAt onesBelow fromBits byteAt parityBit parityOf carriedAt positionsOf wordsOf lanesOf etAtRequest planOf classOf codeNumber inRow codeOf isError limitOf carried readGroups refusing numberAt spellGroups spell spellAll allowed ruled fieldAt store layoutOf andThen fieldsAt kindAt recordAt kindOf fieldsOf fits valid bytesOf writtenOf spaceAfter lastUnit contains unitGranted lockNext locked met passed firstMet moved granted byTurn lowGrant grantNext lockAllowed stateAllowed admits arbitration initial codes classes stored zeroAndSeven afterFirst Option·elim
+unfolding within sumBelow bitAt onesBelow fromBits byteAt parityBit parityOf carriedAt positionsOf wordsOf lanesOf etAtRequest planOf classOf codeNumber inRow codeOf isError limitOf carried readGroups refusing numberAt spellGroups spell spellAll allowed ruled fieldAt store layoutOf andThen fieldsAt kindAt recordAt kindOf fieldsOf fits valid bytesOf writtenOf spaceAfter lastUnit contains unitGranted lockNext locked met passed firstMet moved granted byTurn lowGrant grantNext lockAllowed stateAllowed setsAllowed admits arbitration initial codes classes stored zeroAndSeven afterFirst Option·elim
 worked =
     record {
       p1 = refl;

@@ -1,6 +1,6 @@
 -- `handler::is_allowed` meets its contract.
 use borrow.Author.Needs.{needs}
-use Rattle.handler.specs.Handler.{stateAllowed, allowed}
+use Rattle.handler.specs.Handler.{stateAllowed, setsAllowed, allowed}
 use Rattle.handler.proofs.is_allowed.Statement.{statement}
 use Rattle.handler.proofs.is_allowed.Tie as tie
 
@@ -8,7 +8,7 @@ is-lock-allowed-requires : tie.Need-is-lock-allowed-requires
 is-lock-allowed-requires c κs = search needs
 
 returns : tie.Need-returns
-unfolding stateAllowed allowed
+unfolding stateAllowed setsAllowed allowed
 returns c = rw (c .is-lock-allowed .ensures)
 
 pub is-allowed-spec : {M : Type 1} → statement M
