@@ -38,6 +38,10 @@ pub record Turn (c : Class) (u : ℕ) (k : Call) : Type 0 where
   pub unlocked : c ≡ Low → isUnlocked k ≡ true
   pub asked : asks c u k ≡ true
 
+-- after the call fewer units are met before unit u than before it
+abbrev pub Nearer : Class → ℕ → Call → Type 0
+Nearer c u k = distance (lastUnit c (answer k .state)) u < distance (lastUnit c (k .state)) u
+
 module _ (k : Call) where
   accepted-call : isAccepted k ≡ true → allowed (k .state) (k .input .high) (k .input .low) ≡ true
   unfolding isAccepted answer
@@ -67,12 +71,11 @@ module _ (k : Call) where
   last-stays c h = no-grant-keeps _ _ _ _ c (granted-nobody c h)
 
   -- a turn goes to unit u or brings it nearer
-  pub nearer : (c : Class) (u : ℕ) → u ≤ 7 → Turn c u k →
-      (isGrantTo c u k ≡ true) ⊎ (distance (lastUnit c (answer k .state)) u < distance (lastUnit c (k .state)) u)
+  pub granted-or-nearer : (c : Class) (u : ℕ) → u ≤ 7 → Turn c u k → (isGrantTo c u k ≡ true) ⊎ Nearer c u k
   unfolding answer asks isGrantTo Option·elim
-  nearer c u hu t = on (granted-somebody c (t .grant))
+  granted-or-nearer c u hu t = on (granted-somebody c (t .grant))
     where
-      on : (v : ℕ) × (unitGranted c (answer k .grant) ≡ some v) → (isGrantTo c u k ≡ true) ⊎ (distance (lastUnit c (answer k .state)) u < distance (lastUnit c (k .state)) u)
+      on : (v : ℕ) × (unitGranted c (answer k .grant) ≡ some v) → (isGrantTo c u k ≡ true) ⊎ Nearer c u k
       on (v, e) = by (ℕ-discrete v u)
         where
           ok : (allowed (k .state) (k .input .high) (k .input .low) ≡ true) × (v ≤ 7)
@@ -84,7 +87,7 @@ module _ (k : Call) where
           no-later : distance (lastUnit c (k .state)) v ≤ distance (lastUnit c (k .state)) u
           no-later = granted-nearest _ _ _ _ c v e (λ l. no-owner-left (t .unlocked l)) u hu (t .asked)
 
-          by : Dec (v ≡ u) → (isGrantTo c u k ≡ true) ⊎ (distance (lastUnit c (answer k .state)) u < distance (lastUnit c (k .state)) u)
+          by : Dec (v ≡ u) → (isGrantTo c u k ≡ true) ⊎ Nearer c u k
           by (yes q) = inl (rw e (eq-eqb v u q))
           by (no n) = inr (rw (granted-sets _ _ _ _ c v e) (distance-falls _ v u last (ok .1) hu no-later n))
 

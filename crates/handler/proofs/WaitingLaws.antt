@@ -14,7 +14,7 @@ use Rattle.handler.specs.Waiting.{Input, Call, answer, calls, isAccepted
 use Rattle.handler.proofs.Lists.{only-passed, only-failed, each-parts}
 use Rattle.handler.proofs.RoundRobin.{distance-small}
 use Rattle.handler.proofs.HandlerLaws.{accepted-allowed, refused-leaves, stays-allowed}
-use Rattle.handler.proofs.WaitingCall.{Turn, grant-accepted, last-stays, nearer, clear-parts, each-call-grants}
+use Rattle.handler.proofs.WaitingCall.{Turn, Nearer, grant-accepted, last-stays, granted-or-nearer, clear-parts, each-call-grants}
 
 -- ---- the first n calls that count, for a unit at a distance below n
 
@@ -25,8 +25,8 @@ module _ (c : Class) (u : ℕ) (hu : u ≤ 7) where
   turn-before k ks h later zero d l = absurd (omega arith)
   turn-before k ks h later (suc n) d l =
       ⊎-elim (λ (g : isGrantTo c u k ≡ true). rw g refl)
-      (λ (x : distance (lastUnit c (answer k .state)) u < distance (lastUnit c (k .state)) u). rw (later n (omega arith) (omega arith)) (or-true (isGrantTo c u k)))
-      (nearer k c u hu h)
+      (λ (x : Nearer c u k). rw (later n (omega arith) (omega arith)) (or-true (isGrantTo c u k)))
+      (granted-or-nearer k c u hu h)
 
   -- the calls that pass t count. No other gives a grant of the class, and each is a turn if it passes p (in the low class) and the unit asks
   module _ (t p : Call → Bool) (no-other : (k : Call) → t k ≡ false → isGrant c k ≡ false)
