@@ -95,11 +95,11 @@ pub record Bounded (c : Class) (u : ℕ) (ks : List Call) : Type 0 where
   pub withinCalls : (c ≡ Low → each isClear (only isAccepted ks) ≡ true) → Within 8 c u (only isAccepted ks)
 
 -- "Nobody waits forever": from any state (from one that isn't accepted no call is), whatever the other units ask. A list may end anywhere, so a unit
--- need stay only until its grant
+-- needs to stay only until its grant
 unfoldable pub BoundedWaiting : Type 0
 BoundedWaiting = (c : Class) (s : State) (u : ℕ) (is : List Input) → u ≤ 7 → Stays c u (calls s is) → Bounded c u (calls s is)
 
--- "each accepted call is one": where some unit asks, a call gives a grant of its class; the low class, "with RQH empty and no lock"
+-- "each accepted call is one": an accepted call in which some unit asks in class c gives a grant of class c; the low class, "with RQH empty and no lock"
 unfoldable pub EachCallGrants : Type 0
 EachCallGrants = (c : Class) (u : ℕ) (k : Call) → isAccepted k ≡ true → asks c u k ≡ true → (c ≡ Low → isClear k ≡ true) → isGrant c k ≡ true
 
