@@ -1,5 +1,5 @@
--- The numbers of refusal and their names (document 01, "Numbers of refusal"; 11 and 12 from document 02, T-01), and tests in their order. 0 says that
--- nothing was refused.
+-- The numbers of refusal and their names (document 01, "Numbers of refusal"; 11 and 12 from document 02, T-01, and 17 from T-14), and tests in their
+-- order. 0 says that nothing was refused.
 use Prim.Native.Nat.{ℕ}
 use mathlib.Core.Bool.{Bool, cond}
 use mathlib.Core.List.{List, [], _∷_}
@@ -43,6 +43,9 @@ otherSource = 11
 
 abbrev pub outOfTurn : ℕ
 outOfTurn = 12
+
+abbrev pub halvesDiffer : ℕ
+halvesDiffer = 17
 
 -- a test, and the number that is given where it does not pass
 pub record Test : Type 0 where

@@ -30,6 +30,9 @@ pub const OTHER_SOURCE: u8 = 11;
 // Document 02, T-01: an operation that starts a message within another, or goes on with none.
 pub const OUT_OF_TURN: u8 = 12;
 
+// Document 02, T-14: an address cycle whose halves differ.
+pub const HALVES_DIFFER: u8 = 17;
+
 // What an order asks of the bus.
 pub enum Command {
     Read,

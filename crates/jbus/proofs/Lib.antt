@@ -1,0 +1,5 @@
+-- Laws of the definitions.
+pub mod DeviceLaws
+pub mod InterruptLaws
+pub mod RoundTrip
+pub mod Example
