@@ -1,0 +1,2 @@
+-- What crosses between interrupts and a program in another language.
+pub mod Interrupt
