@@ -1,0 +1,102 @@
+// Address cycles that are written, and read again.
+ghost use Prim.Native.Nat.{_≤_};
+use crate::print::halves;
+use crate::print::number;
+use crate::print::reading;
+use crate::print::word;
+use jbus::CycleWritten;
+use jbus::InterruptRead;
+
+// The target and the agent.
+const WRITINGS: [[u8; 2]; 16] = [
+    // "Target 3 from agent 28 is 0x0000A03E00000000"; the least and the greatest
+    [3, 28],
+    [0, 0],
+    [31, 31],
+    [31, 0],
+    [0, 31],
+    // "8 (.. on writing a number above 31)": each, and both
+    [32, 0],
+    [0, 32],
+    [32, 31],
+    [31, 32],
+    [32, 32],
+    [64, 28],
+    [3, 60],
+    [128, 0],
+    [0, 128],
+    [255, 31],
+    [255, 255],
+];
+
+fn writing(target: u8, agent: u8) {
+    number(b"write ", target as u64);
+    number(b" ", agent as u64);
+    word(b":");
+    let answer = jbus::write_interrupt(target, agent);
+    match answer {
+        CycleWritten::Cycle(cycle) => {
+            halves(cycle);
+            word(b"\n");
+            reading(cycle)
+        }
+        CycleWritten::Refused(n) => {
+            number(b" refusal ", n as u64);
+            word(b"\n")
+        }
+    }
+}
+
+fn row(values: [u8; 2]) {
+    writing(values[0], values[1]);
+}
+
+pub(crate) fn run_writings() {
+    for k in 0..16 {
+        row(WRITINGS[k]);
+    }
+}
+
+// Each agent of Table 5-3.
+pub(crate) fn run_agents() {
+    for agent in 0..32 {
+        writing(3, agent);
+    }
+}
+
+// 1 where a pair is written and read as the same pair, else 0.
+fn comes_back(target: u8, agent: u8) -> u32
+    ensures { λ r. ⌜ r ≤ 1 ⌝ }
+{
+    let CycleWritten::Cycle(cycle) = jbus::write_interrupt(target, agent) else {
+        return 0;
+    };
+    let InterruptRead::Interrupt(i) = jbus::read_interrupt(cycle) else {
+        return 0;
+    };
+    if (i.target == target) & (i.agent == agent) {
+        1
+    } else {
+        0
+    }
+}
+
+// How many agents' interrupts to a target come back.
+fn come_back(target: u8) -> u32
+    ensures { λ r. ⌜ r ≤ 32 ⌝ }
+{
+    let mut n = 0;
+    for agent in 0..32 {
+        n = n + comes_back(target, agent);
+    }
+    n
+}
+
+pub(crate) fn run_pairs() {
+    let mut n = 0;
+    for target in 0..32 {
+        n = n + come_back(target);
+    }
+    number(b"pairs that come back ", n as u64);
+    word(b"\n");
+}
