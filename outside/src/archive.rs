@@ -1,4 +1,5 @@
-//! The proved library as C sees it (include/trainer.h, include/trainer_message.h), with slices in the place of pointers and lengths.
+//! The proved library as C sees it (include/trainer.h, include/trainer_message.h, include/trainer_jbus.h), with slices in the place of
+//! pointers and lengths.
 
 /// Numbers in the answer of a call: value, count of orders, and four orders of unit, command, block, retried.
 pub const ANSWER_NUMBERS: usize = 18;
@@ -76,6 +77,14 @@ mod foreign {
             sender: u32, aid: u32,
             index: usize,
             sequence: *mut u32, offset: *mut usize, length: *mut usize,
+        ) -> u32;
+        pub fn trainer_read_interrupt(
+            upper: u64, lower: u64,
+            target: *mut u32, agent: *mut u32, device: *mut u32,
+        ) -> u32;
+        pub fn trainer_write_interrupt(
+            target: u32, agent: u32,
+            upper: *mut u64, lower: *mut u64,
         ) -> u32;
     }
 }
@@ -168,4 +177,12 @@ pub fn divide(message: &[u8], sender: u32, aid: u32, operations: &mut usize) -> 
 
 pub fn operation(message: &[u8], sender: u32, aid: u32, index: usize, sequence: &mut u32, offset: &mut usize, length: &mut usize) -> u32 {
     unsafe { foreign::trainer_operation(message.as_ptr(), message.len(), sender, aid, index, sequence, offset, length) }
+}
+
+pub fn read_interrupt(upper: u64, lower: u64, target: &mut u32, agent: &mut u32, device: &mut u32) -> u32 {
+    unsafe { foreign::trainer_read_interrupt(upper, lower, target, agent, device) }
+}
+
+pub fn write_interrupt(target: u32, agent: u32, upper: &mut u64, lower: &mut u64) -> u32 {
+    unsafe { foreign::trainer_write_interrupt(target, agent, upper, lower) }
 }

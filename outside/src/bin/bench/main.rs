@@ -1,12 +1,14 @@
 //! The benchmark: each call of the proved library beside plain Rust with the same checks, on the same inputs, in one run.
 //! "Rust, same work" decodes and encodes the directory as the proved side does; "Rust, in place" works on its bytes.
 //! Each figure is the least of many rounds, in nanoseconds for one operation; the two sides take turns.
+mod interrupts;
 mod messages;
 mod packed;
 mod records;
 mod typed;
 
 use outside::archive;
+use outside::interrupt;
 use outside::random::Random;
 use outside::tape;
 use std::hint::black_box;
@@ -253,6 +255,59 @@ fn message_rows() {
     row("operation, of a message of 4,096 bytes", proved, rust, None);
 }
 
+/// Every address cycle read; gives a sum that depends on every answer.
+fn read_cycles(cycles: &[(u64, u64)], read: impl Fn(u64, u64, &mut u32, &mut u32, &mut u32) -> u32) -> u64 {
+    let mut sum = 0;
+    for &(upper, lower) in cycles {
+        let (mut target, mut agent, mut device) = (0, 0, 0);
+        let code = read(upper, lower, &mut target, &mut agent, &mut device);
+        sum += u64::from(code + target + 32 * agent + 1024 * device);
+    }
+    sum
+}
+
+/// Every pair of target and agent written.
+fn write_cycles(pairs: &[(u32, u32)], write: impl Fn(u32, u32, &mut u64, &mut u64) -> u32) -> u64 {
+    let mut sum = 0u64;
+    for &(target, agent) in pairs {
+        let (mut upper, mut lower) = (0, 0);
+        let code = write(target, agent, &mut upper, &mut lower);
+        sum = sum.wrapping_add(u64::from(code)).wrapping_add(upper ^ lower >> 31);
+    }
+    sum
+}
+
+fn read_row(name: &str, cycles: &[(u64, u64)]) {
+    let [proved, rust] = measure::<2>(cycles.len(), |n| {
+        let cycles = black_box(cycles);
+        if n == 0 { read_cycles(cycles, archive::read_interrupt) } else { read_cycles(cycles, interrupts::trainer_read_interrupt) }
+    });
+    row(name, proved, rust, None);
+}
+
+fn interrupt_rows() {
+    let mut random = Random::new(111);
+    // So many that branch prediction does not learn which are refused.
+    let pairs: Vec<(u32, u32)> = (0..90_000).map(|_| (random.below(32), random.below(32))).collect();
+    let cycles: Vec<(u64, u64)> = pairs.iter().map(|&(target, agent)| interrupt::write(target, agent).expect("numbers up to 31")).collect();
+    read_row("read_interrupt", &cycles);
+    let mixed: Vec<(u64, u64)> = cycles
+        .iter()
+        .map(|&(upper, lower)| match random.below(6) {
+            0 => (upper, lower ^ 1 << random.below(64)),
+            1 => (upper ^ 1 << 43, lower ^ 1 << 43),
+            2 => (upper | 1, lower | 1),
+            _ => (upper, lower),
+        })
+        .collect();
+    read_row("read_interrupt, half of the cycles refused at random", &mixed);
+    let [proved, rust] = measure::<2>(pairs.len(), |n| {
+        let pairs = black_box(&pairs[..]);
+        if n == 0 { write_cycles(pairs, archive::write_interrupt) } else { write_cycles(pairs, interrupts::trainer_write_interrupt) }
+    });
+    row("write_interrupt", proved, rust, None);
+}
+
 /// The loop of the program `mix` in plain Rust: five million loads and stores with their tests, and no boundary around them.
 fn mix(load: impl Fn(u32, u32) -> u32, store: impl Fn(u32, u32, u32)) -> u32 {
     let (mut sum, mut x) = (0u32, 12345u32);
@@ -349,6 +404,7 @@ fn main() {
     calls_row("random loads and stores", &[], &mix);
     tape_rows();
     message_rows();
+    interrupt_rows();
     match std::env::args().nth(1) {
         Some(program) => mix_row(&program),
         None => println!("(give the built program mix as the argument to time it too)"),
