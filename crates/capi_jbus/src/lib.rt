@@ -5,7 +5,6 @@ use jbus::CycleWritten;
 use jbus::Device;
 use jbus::InterruptRead;
 ghost use mathlib.Core.Path.{_≡_};
-ghost use Prim.Native.Nat.{min};
 ghost use Rattle.jbus.specs.Interrupt.{interruptRead, cycleWritten};
 ghost use Rattle.capi_jbus.specs.Interrupt.{halves, deviceNumber, readReturned, targetLeft, agentLeft, deviceLeft, writeReturned, upperLeft, lowerLeft};
 
@@ -19,13 +18,6 @@ fn device_number(device: Device) -> u32
         Device::Bridge0 => 3,
         Device::Bridge1 => 4,
     }
-}
-
-// A number as a byte holds it. What a byte does not hold becomes 255, which is no thread and no agent either.
-fn byte_from(n: u32) -> u8
-    ensures { λ r. ⌜ r ≡ min n 255 ⌝ }
-{
-    if n <= 255 { n as u8 } else { 255 }
 }
 
 // Reads the address cycle of an interrupt.
@@ -43,8 +35,8 @@ pub extern "C" fn trainer_read_interrupt(
     match answer {
         InterruptRead::Interrupt(i) => {
             let d = i.device;
-            *target = i.target as u32;
-            *agent = i.agent as u32;
+            *target = i.target;
+            *agent = i.agent;
             *device = device_number(d);
             0
         }
@@ -62,7 +54,7 @@ pub extern "C" fn trainer_write_interrupt(
 ) -> u32
     ensures { λ r. ⌜ (r ≡ writeReturned (cycleWritten target agent)) × (now (upper .exit) ≡ upperLeft (cycleWritten target agent) (now (upper .entry))) × (now (lower .exit) ≡ lowerLeft (cycleWritten target agent) (now (lower .entry))) ⌝ }
 {
-    let answer = jbus::write_interrupt(byte_from(target), byte_from(agent));
+    let answer = jbus::write_interrupt(target, agent);
     match answer {
         CycleWritten::Cycle(c) => {
             *upper = c.upper;

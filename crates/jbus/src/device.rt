@@ -1,6 +1,5 @@
 // What an agent ID stands for (source document 000, Table 5-3).
 ghost use mathlib.Core.Path.{_≡_};
-ghost use Prim.Native.Nat.{_<_};
 ghost use Rattle.jbus.specs.Device.{deviceOf};
 
 pub enum Device {
@@ -11,17 +10,29 @@ pub enum Device {
     Bridge1,
 }
 
-// The device that an agent's low four bits name.
-pub(crate) fn device_of(agent: u8) -> Device
-    requires { ⌜ agent < 32 ⌝ }
+// By an agent's low four bits.
+const DEVICES: [Device; 16] = [
+    Device::Processor,
+    Device::Processor,
+    Device::Processor,
+    Device::Processor,
+    Device::NotSupported,
+    Device::NotSupported,
+    Device::Illegal,
+    Device::Illegal,
+    Device::NotSupported,
+    Device::NotSupported,
+    Device::NotSupported,
+    Device::NotSupported,
+    Device::Bridge0,
+    Device::Bridge0,
+    Device::Bridge1,
+    Device::Bridge1,
+];
+
+pub(crate) fn device_of(agent: u32) -> Device
     ensures { λ r. ⌜ r ≡ deviceOf agent ⌝ }
 {
-    let low = agent % 16;
-    match low {
-        0..=3 => Device::Processor,
-        4..=5 | 8..=11 => Device::NotSupported,
-        6..=7 => Device::Illegal,
-        12..=13 => Device::Bridge0,
-        _ => Device::Bridge1,
-    }
+    let low = (agent % 16) as usize;
+    DEVICES[low]
 }

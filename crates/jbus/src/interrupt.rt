@@ -27,8 +27,8 @@ pub struct AddressCycle {
 
 // The target's thread, the source's agent ID, and the device that it names.
 pub struct Interrupt {
-    pub target: u8,
-    pub agent: u8,
+    pub target: u32,
+    pub agent: u32,
     pub device: Device,
 }
 
@@ -58,8 +58,8 @@ pub fn read_interrupt(cycle: AddressCycle) -> InterruptRead
     if half % AGENT_WEIGHT != 0 {
         return InterruptRead::Refused(FIELD_RANGE);
     }
-    let target = (half / TARGET_WEIGHT % 32) as u8;
-    let agent = (half / AGENT_WEIGHT % 32) as u8;
+    let target = (half / TARGET_WEIGHT % 32) as u32;
+    let agent = (half / AGENT_WEIGHT % 32) as u32;
     let device = device_of(agent);
     InterruptRead::Interrupt(Interrupt {
         target,
@@ -68,7 +68,7 @@ pub fn read_interrupt(cycle: AddressCycle) -> InterruptRead
     })
 }
 
-pub fn write_interrupt(target: u8, agent: u8) -> CycleWritten
+pub fn write_interrupt(target: u32, agent: u32) -> CycleWritten
     ensures { λ r. ⌜ r ≡ cycleWritten target agent ⌝ }
 {
     if 31 < target {

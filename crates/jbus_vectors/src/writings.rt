@@ -8,7 +8,7 @@ use jbus::CycleWritten;
 use jbus::InterruptRead;
 
 // The target and the agent.
-const WRITINGS: [[u8; 2]; 16] = [
+const WRITINGS: [[u32; 2]; 21] = [
     // "Target 3 from agent 28 is 0x0000A03E00000000"; the least and the greatest
     [3, 28],
     [0, 0],
@@ -27,9 +27,14 @@ const WRITINGS: [[u8; 2]; 16] = [
     [0, 128],
     [255, 31],
     [255, 255],
+    [256, 28],
+    [3, 284],
+    [65539, 28],
+    [3, 2147483676],
+    [4294967295, 4294967295],
 ];
 
-fn writing(target: u8, agent: u8) {
+fn writing(target: u32, agent: u32) {
     number(b"write ", target as u64);
     number(b" ", agent as u64);
     word(b":");
@@ -47,12 +52,12 @@ fn writing(target: u8, agent: u8) {
     }
 }
 
-fn row(values: [u8; 2]) {
+fn row(values: [u32; 2]) {
     writing(values[0], values[1]);
 }
 
 pub(crate) fn run_writings() {
-    for k in 0..16 {
+    for k in 0..21 {
         row(WRITINGS[k]);
     }
 }
@@ -65,7 +70,7 @@ pub(crate) fn run_agents() {
 }
 
 // 1 where a pair is written and read as the same pair, else 0.
-fn comes_back(target: u8, agent: u8) -> u32
+fn comes_back(target: u32, agent: u32) -> u32
     ensures { λ r. ⌜ r ≤ 1 ⌝ }
 {
     let CycleWritten::Cycle(cycle) = jbus::write_interrupt(target, agent) else {
@@ -82,7 +87,7 @@ fn comes_back(target: u8, agent: u8) -> u32
 }
 
 // How many agents' interrupts to a target come back.
-fn come_back(target: u8) -> u32
+fn come_back(target: u32) -> u32
     ensures { λ r. ⌜ r ≤ 32 ⌝ }
 {
     let mut n = 0;

@@ -11,12 +11,6 @@ read-interrupt-requires c κs = search needs
 enum-known-answer : tie.Need-enum-known-answer
 enum-known-answer c = search needs
 
-cast-target : tie.Need-cast-target
-cast-target c = search needs
-
-cast-agent : tie.Need-cast-agent
-cast-agent c = search needs
-
 device-number-requires : tie.Need-device-number-requires
 device-number-requires c κs = search needs
 
@@ -29,7 +23,7 @@ cast-result c = search needs
 returns : tie.Need-returns
 unfolding halves readReturned targetLeft agentLeft deviceLeft
 returns c =
-    rw (← c .before .before .before .before .before .before .read-interrupt .ensures, c .before .before .before .before .answer .given .1) (refl, refl, refl, c .device-number .ensures)
+    rw (← c .before .before .before .before .read-interrupt .ensures, c .before .before .answer .given .1) (refl, refl, refl, c .device-number .ensures)
 
 returns-2 : tie.Need-returns-2
 unfolding halves readReturned targetLeft agentLeft deviceLeft
@@ -42,8 +36,6 @@ trainer-read-interrupt-spec =
     (tie.spec
     read-interrupt-requires
     enum-known-answer
-    cast-target
-    cast-agent
     device-number-requires
     enum-known-answer-2
     cast-result

@@ -1,26 +1,28 @@
--- `jbus::device::device_of` meets its contract: each arm is a row of the table.
-use native.Mathlib.Omega.{arith}
-use Rattle.jbus.proofs.DeviceLaws.{processor, not-supported-low, not-supported-high, illegal, bridge-0, bridge-1}
+-- `jbus::device::device_of` meets its contract.
+use borrow.Author.Needs.{needs}
+use mathlib.Core.Path.{refl}
+use mathlib.Core.List.{List, [], _∷_}
+use Rattle.jbus.specs.declared.device.Device.{Device}
+use Rattle.jbus.specs.declared.device.Device.the-variants.{Processor, NotSupported, Illegal, Bridge0, Bridge1}
+use Rattle.jbus.specs.Device.{names, named}
+use Rattle.jbus.proofs.DeviceLaws.{every, least, entry, in-table}
 use Rattle.jbus.proofs.device.device_of.Statement.{statement}
 use Rattle.jbus.proofs.device.device_of.Tie as tie
 
+cast-low : tie.Need-cast-low
+cast-low c = search needs
+
+array-copy-out-result : tie.Need-array-copy-out-result
+array-copy-out-result c = search needs
+
+table : List Device
+table =
+    Processor ∷ Processor ∷ Processor ∷ Processor ∷ NotSupported ∷ NotSupported ∷ Illegal ∷ Illegal
+    ∷ NotSupported ∷ NotSupported ∷ NotSupported ∷ NotSupported ∷ Bridge0 ∷ Bridge0 ∷ Bridge1 ∷ Bridge1 ∷ []
+
 returns : tie.Need-returns
-returns c = processor _ (omega arith) (omega arith)
-
-returns-2 : tie.Need-returns-2
-returns-2 c = illegal _ (omega arith) (omega arith) (omega arith)
-
-returns-3 : tie.Need-returns-3
-returns-3 c = bridge-0 _ (omega arith) (omega arith) (omega arith)
-
-returns-4 : tie.Need-returns-4
-returns-4 c = bridge-1 _ (omega arith) (omega arith)
-
-returns-5 : tie.Need-returns-5
-returns-5 c = not-supported-low _ (omega arith) (omega arith) (omega arith)
-
-returns-6 : tie.Need-returns-6
-returns-6 c = not-supported-high _ (omega arith) (omega arith) (omega arith)
+unfolding table every entry least named names
+returns c = in-table table refl _
 
 pub device-of-spec : {M : Type 1} → statement M
-device-of-spec = tie.close (tie.spec returns returns-2 returns-3 returns-4 returns-5 returns-6)
+device-of-spec = tie.close (tie.spec cast-low array-copy-out-result returns)

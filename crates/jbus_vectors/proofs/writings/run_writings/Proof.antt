@@ -5,10 +5,10 @@ use Rattle.jbus_vectors.proofs.writings.run_writings.Statement.{stateme
 use Rattle.jbus_vectors.proofs.writings.run_writings.Tie as tie
 
 abbrev Inv-loop : tie.InvT-loop
-Inv-loop k₀ k = k ≤ 16
+Inv-loop k₀ k = k ≤ 21
 
 abbrev μ-loop : tie.MeasureT-loop
-μ-loop k₀ k = 16 - k
+μ-loop k₀ k = 21 - k
 
 loop-holds : tie.Need-loop-holds Inv-loop μ-loop
 loop-holds c = search needs
