@@ -14,11 +14,11 @@ extern "C" {
 #endif
 
 /* What an agent ID's low four bits name. */
-#define TRAINER_PROCESSOR 0
-#define TRAINER_NOT_SUPPORTED 1
-#define TRAINER_ILLEGAL 2
-#define TRAINER_BRIDGE_0 3
-#define TRAINER_BRIDGE_1 4
+#define TRAINER_DEVICE_PROCESSOR 0
+#define TRAINER_DEVICE_NOT_SUPPORTED 1
+#define TRAINER_DEVICE_ILLEGAL 2
+#define TRAINER_DEVICE_BRIDGE_0 3
+#define TRAINER_DEVICE_BRIDGE_1 4
 
 /* Reads the address cycle of an interrupt: J_AD[127:64] and J_AD[63:0]. *target is the target thread, *agent the source's agent ID, both up
  * to 31, and *device one of the numbers above. Refusals: 17 (the halves differ in any bit), 7 (bits 47-43 are not 0x14), 8 (bits 42-41 or

@@ -1,4 +1,4 @@
--- Every agent has exactly one device, by one test computed for all 32 agents; and a table that passes a test has every agent's device.
+-- Every agent has exactly one device, by one test that is computed for each device over all 32 agents; and a table that passes a test has every agent's device.
 use Prim.Native.Nat.{ℕ, zero, suc, _<_, _%_}
 use mathlib.Core.Path.{_≡_, refl, sym, ap, _∙_}
 use mathlib.Core.Bool.{Bool, true, not, _&&_, _||_, and-eq-true-iff}
@@ -10,7 +10,7 @@ use borrow.Author.Count.{below-none, below-more}
 use borrow.Author.Tests.{eqb-true}
 use Rattle.jbus.specs.declared.device.Device.{Device}
 use Rattle.jbus.specs.declared.device.Device.the-variants.{Processor, NotSupported, Illegal, Bridge0, Bridge1}
-use Rattle.jbus.specs.Device.{lowBits, names, named, deviceOf, OneDevice}
+use Rattle.jbus.specs.Device.{lowBits, inRow, byRow, deviceOf, OneDevice}
 
 -- ---- a test of all numbers below n
 
@@ -36,7 +36,7 @@ least Bridge0 = 12
 least Bridge1 = 14
 
 device-of-least : (d : Device) → deviceOf (least d) ≡ d
-unfolding least deviceOf lowBits named names
+unfolding least deviceOf lowBits byRow inRow
 device-of-least Processor = refl
 device-of-least NotSupported = refl
 device-of-least Illegal = refl
@@ -48,10 +48,10 @@ apart d e same = sym (device-of-least d) ∙ ap deviceOf same ∙ device-of-leas
 
 -- the row of the agent's device has the agent, and the row of d has it only if d is that device
 alone : Device → ℕ → Bool
-alone d agent = names (deviceOf agent) (lowBits agent) && (not (names d (lowBits agent)) || eqb (least d) (least (deviceOf agent)))
+alone d agent = inRow (deviceOf agent) (lowBits agent) && (not (inRow d (lowBits agent)) || eqb (least d) (least (deviceOf agent)))
 
 computed : (d : Device) → every (alone d) 32 ≡ true
-unfolding every alone least deviceOf lowBits named names
+unfolding every alone least deviceOf lowBits byRow inRow
 computed Processor = refl
 computed NotSupported = refl
 computed Illegal = refl
@@ -63,11 +63,11 @@ unfolding alone
 one-device agent l = record { its = parts Processor .0; noOther = other }
   where
     parts : (d : Device)
-        → (names (deviceOf agent) (lowBits agent) ≡ true)
-        × ((not (names d (lowBits agent)) || eqb (least d) (least (deviceOf agent))) ≡ true)
+        → (inRow (deviceOf agent) (lowBits agent) ≡ true)
+        × ((not (inRow d (lowBits agent)) || eqb (least d) (least (deviceOf agent))) ≡ true)
     parts d = and-eq-true-iff _ _ .0 (at (alone d) 32 (computed d) agent l)
 
-    other : (d : Device) → names d (lowBits agent) ≡ true → d ≡ deviceOf agent
+    other : (d : Device) → inRow d (lowBits agent) ≡ true → d ≡ deviceOf agent
     other d e =
         let same : eqb (least d) (least (deviceOf agent)) ≡ true = rw e at (parts d .1) in
         apart d (deviceOf agent) (eqb-true _ _ same)
@@ -75,7 +75,7 @@ one-device agent l = record { its = parts Processor .0; noOther = other }
 -- ---- a table by the low four bits
 
 unfoldable pub entry : List Device → ℕ → Bool
-entry table n = eqb (least (getD table n Processor)) (least (named n))
+entry table n = eqb (least (getD table n Processor)) (least (byRow n))
 
 -- one that passes the test at each of its 16 entries has every agent's device
 pub in-table : (table : List Device) → every (entry table) 16 ≡ true → (agent : ℕ) → getD table (agent % 16) Processor ≡ deviceOf agent

@@ -1,6 +1,6 @@
 -- The answers of reading and writing, with their tests in order, and the fields of a half.
-use Prim.Native.Nat.{ℕ, _+_, _*_, _/_, _%_, _^_, _<_, _≤_}
-use mathlib.Core.Path.{_≡_, refl, ap, _∙_}
+use Prim.Native.Nat.{ℕ, _+_, _*_, _%_, _^_, _<_, _≤_}
+use mathlib.Core.Path.{_≡_, refl}
 use mathlib.Core.Bool.{Bool, true, false, cond, _&&_}
 use native.Mathlib.Omega.{arith}
 use lib.Dec.{eqb, leb}
@@ -79,17 +79,14 @@ agent-small w = omega arith
 fields-of-half : (w : ℕ)
     → w % 2 ^ 48 ≡ transactionOf w * 2 ^ 43 + (reservedOf w * 2 ^ 41 + (targetOf w * 2 ^ 36 + (agentOf w * 2 ^ 31 + lowReservedOf w)))
 unfolding transactionOf reservedOf targetOf agentOf lowReservedOf
-fields-of-half w = rw (mod-pow-add w 5 43, mod-pow-add w 2 41, mod-pow-add w 5 36, mod-pow-add w 5 31)
+fields-of-half w = rw (field w 5 43, field w 2 41, field w 5 36, field w 5 31, mod-pow-add w 5 43, mod-pow-add w 2 41, mod-pow-add w 5 36, mod-pow-add w 5 31)
 
 -- so the half of target and agent is what bits 47-0 are
 pub half-of-fields : (w : ℕ) → transactionOf w ≡ 0x14 → reservedOf w ≡ 0 → lowReservedOf w ≡ 0 → halfOf (targetOf w) (agentOf w) ≡ w % 2 ^ 48
 unfolding halfOf
 half-of-fields w e r z = let parts = fields-of-half w in omega arith
 
--- the field of j bits from bit k on does not see bits above it
-field-cleared : (w i j k : ℕ) → w % 2 ^ (i + j + k) / 2 ^ k % 2 ^ j ≡ w / 2 ^ k % 2 ^ j
-field-cleared w i j k = ap (λ (x : ℕ). x % 2 ^ j) (field w (i + j) k) ∙ mod-mod-pow (w / 2 ^ k) i j
-
+-- the fields do not see bits 63-48
 pub half-cleared : (w : ℕ) → half-read (w % 2 ^ 48) ≡ half-read w
 unfolding transactionOf reservedOf targetOf agentOf lowReservedOf interruptOf half-read
-half-cleared w = rw (field-cleared w 0 5 43, field-cleared w 5 2 41, field-cleared w 7 5 36, field-cleared w 12 5 31, mod-mod-pow w 17 31)
+half-cleared w = rw (mod-mod-pow w 0 48, mod-mod-pow w 5 43, mod-mod-pow w 7 41, mod-mod-pow w 12 36, mod-mod-pow w 17 31)

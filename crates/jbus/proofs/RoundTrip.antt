@@ -87,9 +87,9 @@ module _ (t a : ℕ) (c : AddressCycle) (e : cycleWritten t a ≡ wrote.Cycle c)
       ∙ reads-all (cycleOf t a) (readable-written t a (in-range .0) (in-range .1))
       ∙ ap read.Interrupt (interrupt-written t a (in-range .0) (in-range .1))
 
-  zero : (c .upper ≡ c .lower) × (c .lower < 2 ^ 48)
+  well-formed : (c .upper ≡ c .lower) × (c .lower < 2 ^ 48)
   unfolding cycleOf
-  zero = rw its-cycle (refl, half-small t a (in-range .0) (in-range .1))
+  well-formed = rw its-cycle (refl, half-small t a (in-range .0) (in-range .1))
 
 -- ---- writing what was read
 
@@ -108,4 +108,4 @@ unfolding cleared
 ignored c e = reads-equal (cleared c) (ap (λ (w : ℕ). w % 2 ^ 48) e) ∙ half-cleared (c .lower) ∙ sym (reads-equal c e)
 
 pub round-trip : RoundTrip
-round-trip = record { back = back; forth = forth; zero = zero; ignored = ignored }
+round-trip = record { back = back; forth = forth; wellFormed = well-formed; ignored = ignored }

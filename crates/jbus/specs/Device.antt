@@ -1,5 +1,5 @@
 -- What an agent ID stands for (document 02, T-14; source document 000, Table 5-3).
-use Prim.Native.Nat.{ℕ, _<_, _%_, _^_}
+use Prim.Native.Nat.{ℕ, _%_, _^_}
 use mathlib.Core.Path.{_≡_}
 use mathlib.Core.Bool.{Bool, true, cond, _&&_, _||_}
 use lib.Dec.{leb}
@@ -10,26 +10,26 @@ use Rattle.jbus.specs.declared.device.Device.the-variants.{Processor, No
 unfoldable pub lowBits : ℕ → ℕ
 lowBits agent = agent % 2 ^ 4
 
--- the table's values for each device: "0-3 processor, 4-5 and 8-11 not supported, 6-7 illegal, 12-13 bridge 0, 14-15 bridge 1"
-unfoldable pub names : Device → ℕ → Bool
-names Processor n = leb n 3
-names NotSupported n = (leb 4 n && leb n 5) || (leb 8 n && leb n 11)
-names Illegal n = leb 6 n && leb n 7
-names Bridge0 n = leb 12 n && leb n 13
-names Bridge1 n = leb 14 n && leb n 15
+-- whether the low four bits n stand in the row of a device: "0-3 processor, 4-5 and 8-11 not supported, 6-7 illegal, 12-13 bridge 0, 14-15 bridge 1"
+unfoldable pub inRow : Device → ℕ → Bool
+inRow Processor n = leb n 3
+inRow NotSupported n = (leb 4 n && leb n 5) || (leb 8 n && leb n 11)
+inRow Illegal n = leb 6 n && leb n 7
+inRow Bridge0 n = leb 12 n && leb n 13
+inRow Bridge1 n = leb 14 n && leb n 15
 
 -- the device whose row has the low four bits n; the last row is what remains
-unfoldable pub named : ℕ → Device
-named n =
-    cond (names Processor n) Processor
-    (cond (names NotSupported n) NotSupported
-    (cond (names Illegal n) Illegal
-    (cond (names Bridge0 n) Bridge0 Bridge1)))
+unfoldable pub byRow : ℕ → Device
+byRow n =
+    cond (inRow Processor n) Processor
+    (cond (inRow NotSupported n) NotSupported
+    (cond (inRow Illegal n) Illegal
+    (cond (inRow Bridge0 n) Bridge0 Bridge1)))
 
 unfoldable pub deviceOf : ℕ → Device
-deviceOf agent = named (lowBits agent)
+deviceOf agent = byRow (lowBits agent)
 
 -- every agent has exactly one device
 pub record OneDevice (agent : ℕ) : Type 0 where
-  pub its : names (deviceOf agent) (lowBits agent) ≡ true
-  pub noOther : (d : Device) → names d (lowBits agent) ≡ true → d ≡ deviceOf agent
+  pub its : inRow (deviceOf agent) (lowBits agent) ≡ true
+  pub noOther : (d : Device) → inRow d (lowBits agent) ≡ true → d ≡ deviceOf agent

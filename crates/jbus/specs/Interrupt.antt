@@ -14,7 +14,7 @@ use Rattle.jbus.specs.Device.{deviceOf}
 
 -- ---- the fields of a half
 
--- the weight of each field's lowest bit
+-- the weight of each field's lowest bit. A field is what the weight of the next one leaves, divided by its own.
 abbrev pub agentWeight : ℕ
 agentWeight = 2 ^ 31
 
@@ -32,19 +32,19 @@ ignoredWeight = 2 ^ 48
 
 -- bits 47-43: the transaction
 unfoldable pub transactionOf : ℕ → ℕ
-transactionOf half = half / transactionWeight % 2 ^ 5
+transactionOf half = half % ignoredWeight / transactionWeight
 
 -- bits 42-41, which are zero
 unfoldable pub reservedOf : ℕ → ℕ
-reservedOf half = half / reservedWeight % 2 ^ 2
+reservedOf half = half % transactionWeight / reservedWeight
 
 -- bits 40-36: the target thread
 unfoldable pub targetOf : ℕ → ℕ
-targetOf half = half / targetWeight % 2 ^ 5
+targetOf half = half % reservedWeight / targetWeight
 
 -- bits 35-31: the source agent
 unfoldable pub agentOf : ℕ → ℕ
-agentOf half = half / agentWeight % 2 ^ 5
+agentOf half = half % targetWeight / agentWeight
 
 -- bits 30-0, which are zero
 unfoldable pub lowReservedOf : ℕ → ℕ

@@ -1,5 +1,5 @@
 -- What reading and writing an address cycle promise: which cycles are read, which numbers are written, and that each undoes the other (document 02, T-14).
-use Prim.Native.Nat.{ℕ, _%_, _<_, _≤_}
+use Prim.Native.Nat.{ℕ, _%_, _^_, _<_, _≤_}
 use mathlib.Core.Path.{_≡_}
 use mathlib.Core.Bool.{cond, _&&_}
 use mathlib.Core.List.{[], _∷_}
@@ -9,7 +9,7 @@ use Rattle.jbus.specs.declared.interrupt.Interrupt.{Interrupt}
 use Rattle.jbus.specs.declared.interrupt.InterruptRead.the-variants as read
 use Rattle.jbus.specs.declared.interrupt.CycleWritten.the-variants as wrote
 use Rattle.jbus.specs.Device.{deviceOf}
-use Rattle.jbus.specs.Interrupt.{ignoredWeight, transactionOf, reservedOf, targetOf, agentOf, lowReservedOf, interruptOf, interruptRead, readTold, halfOf, cycleOf, cycleWritten, writtenTold}
+use Rattle.jbus.specs.Interrupt.{transactionOf, reservedOf, targetOf, agentOf, lowReservedOf, interruptOf, interruptRead, readTold, halfOf, cycleOf, cycleWritten, writtenTold}
 
 -- what an accepted cycle is, in the paper's own numbers
 pub record Readable (c : AddressCycle) : Type 0 where
@@ -39,7 +39,7 @@ pub record WritesExactly (target agent : ℕ) : Type 0 where
 
 -- bits 63-48 cleared
 unfoldable pub cleared : AddressCycle → AddressCycle
-cleared c = record { upper = c .upper % ignoredWeight; lower = c .lower % ignoredWeight }
+cleared c = record { upper = c .upper % 2 ^ 48; lower = c .lower % 2 ^ 48 }
 
 pub record RoundTrip : Type 0 where
   -- "reading what was written gives the same pair", and the agent's device
@@ -48,6 +48,6 @@ pub record RoundTrip : Type 0 where
   -- writing what was read gives the cycle with bits 63-48 cleared
   pub forth : (c : AddressCycle) (i : Interrupt) → interruptRead c ≡ read.Interrupt i → cycleWritten (i .target) (i .agent) ≡ wrote.Cycle (cleared c)
   -- "two equal 64-bit halves", "bits 63-48 .. written zero"
-  pub zero : (target agent : ℕ) (c : AddressCycle) → cycleWritten target agent ≡ wrote.Cycle c → (c .upper ≡ c .lower) × (c .lower < ignoredWeight)
+  pub wellFormed : (target agent : ℕ) (c : AddressCycle) → cycleWritten target agent ≡ wrote.Cycle c → (c .upper ≡ c .lower) × (c .lower < 2 ^ 48)
   -- "bits 63-48 are ignored on reading"; that the halves differ there is refused all the same
   pub ignored : (c : AddressCycle) → c .upper ≡ c .lower → interruptRead (cleared c) ≡ interruptRead c

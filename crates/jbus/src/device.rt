@@ -12,22 +12,22 @@ pub enum Device {
 
 // By an agent's low four bits.
 const DEVICES: [Device; 16] = [
-    Device::Processor,
-    Device::Processor,
-    Device::Processor,
-    Device::Processor,
-    Device::NotSupported,
-    Device::NotSupported,
-    Device::Illegal,
-    Device::Illegal,
-    Device::NotSupported,
-    Device::NotSupported,
-    Device::NotSupported,
-    Device::NotSupported,
-    Device::Bridge0,
-    Device::Bridge0,
-    Device::Bridge1,
-    Device::Bridge1,
+    Device::Processor, // 0
+    Device::Processor, // 1
+    Device::Processor, // 2
+    Device::Processor, // 3
+    Device::NotSupported, // 4
+    Device::NotSupported, // 5
+    Device::Illegal, // 6
+    Device::Illegal, // 7
+    Device::NotSupported, // 8
+    Device::NotSupported, // 9
+    Device::NotSupported, // 10
+    Device::NotSupported, // 11
+    Device::Bridge0, // 12
+    Device::Bridge0, // 13
+    Device::Bridge1, // 14
+    Device::Bridge1, // 15
 ];
 
 pub(crate) fn device_of(agent: u32) -> Device

@@ -16,6 +16,8 @@ const RESERVED_WEIGHT: u64 = 1 << 41;
 
 const TRANSACTION_WEIGHT: u64 = 1 << 43;
 
+const IGNORED_WEIGHT: u64 = 1 << 48;
+
 // INT, the transaction of an interrupt request (Table 3-1).
 const INTERRUPT_REQUEST: u64 = 0x14;
 
@@ -49,17 +51,17 @@ pub fn read_interrupt(cycle: AddressCycle) -> InterruptRead
     if cycle.upper != half {
         return InterruptRead::Refused(HALVES_DIFFER);
     }
-    if half / TRANSACTION_WEIGHT % 32 != INTERRUPT_REQUEST {
+    if half % IGNORED_WEIGHT / TRANSACTION_WEIGHT != INTERRUPT_REQUEST {
         return InterruptRead::Refused(UNKNOWN_KIND);
     }
-    if half / RESERVED_WEIGHT % 4 != 0 {
+    if half % TRANSACTION_WEIGHT / RESERVED_WEIGHT != 0 {
         return InterruptRead::Refused(FIELD_RANGE);
     }
     if half % AGENT_WEIGHT != 0 {
         return InterruptRead::Refused(FIELD_RANGE);
     }
-    let target = (half / TARGET_WEIGHT % 32) as u32;
-    let agent = (half / AGENT_WEIGHT % 32) as u32;
+    let target = (half % RESERVED_WEIGHT / TARGET_WEIGHT) as u32;
+    let agent = (half % TARGET_WEIGHT / AGENT_WEIGHT) as u32;
     let device = device_of(agent);
     InterruptRead::Interrupt(Interrupt {
         target,

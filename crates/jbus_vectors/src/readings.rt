@@ -8,7 +8,7 @@ use jbus::AddressCycle;
 const EXAMPLE: u64 = 0x0000A03E00000000;
 
 // The upper half and the lower half.
-const READINGS: [[u64; 2]; 33] = [
+const READINGS: [[u64; 2]; 35] = [
     // "Target 3 from agent 28 is 0x0000A03E00000000"; the least and the greatest target and agent
     [EXAMPLE, EXAMPLE],
     [0x0000A00000000000, 0x0000A00000000000],
@@ -32,13 +32,14 @@ const READINGS: [[u64; 2]; 33] = [
     [0x0000E03E00000000, 0x0000E03E00000000],
     [0x0000003E00000000, 0x0000003E00000000],
     [0x0000F83E00000000, 0x0000F83E00000000],
-    // 8 alone: "nonzero zero field": bits 42 and 41, 30 and 0, all of each
+    // 8 alone: "nonzero zero field": bits 42 and 41, 30 and 0, all of each, all of both
     [0x0000A43E00000000, 0x0000A43E00000000],
     [0x0000A23E00000000, 0x0000A23E00000000],
     [0x0000A63E00000000, 0x0000A63E00000000],
     [0x0000A03E40000000, 0x0000A03E40000000],
     [0x0000A03E00000001, 0x0000A03E00000001],
     [0x0000A03E7FFFFFFF, 0x0000A03E7FFFFFFF],
+    [0x0000A63E7FFFFFFF, 0x0000A63E7FFFFFFF],
     // 17 before 7, and before 8
     [0x0000A83E00000000, EXAMPLE],
     [EXAMPLE, 0x0000A83E00000000],
@@ -46,6 +47,7 @@ const READINGS: [[u64; 2]; 33] = [
     [EXAMPLE, 0x0000A23E00000000],
     // 7 before 8; all three at once
     [0x0000A83E00000001, 0x0000A83E00000001],
+    [0x0000AE3E00000000, 0x0000AE3E00000000],
     [0xFFFFFFFFFFFFFFFF, 0xFFFFFFFFFFFFFFFF],
     [0x0000AC3E00000001, 0x0000A83E00000001],
     // no bit at all
@@ -60,7 +62,7 @@ fn row(values: [u64; 2]) {
 }
 
 pub(crate) fn run_readings() {
-    for k in 0..33 {
+    for k in 0..35 {
         row(READINGS[k]);
     }
 }

@@ -4,7 +4,7 @@ use mathlib.Core.Path.{refl}
 use mathlib.Core.List.{List, [], _∷_}
 use Rattle.jbus.specs.declared.device.Device.{Device}
 use Rattle.jbus.specs.declared.device.Device.the-variants.{Processor, NotSupported, Illegal, Bridge0, Bridge1}
-use Rattle.jbus.specs.Device.{names, named}
+use Rattle.jbus.specs.Device.{inRow, byRow}
 use Rattle.jbus.proofs.DeviceLaws.{every, least, entry, in-table}
 use Rattle.jbus.proofs.device.device_of.Statement.{statement}
 use Rattle.jbus.proofs.device.device_of.Tie as tie
@@ -21,7 +21,7 @@ table =
     ∷ NotSupported ∷ NotSupported ∷ NotSupported ∷ NotSupported ∷ Bridge0 ∷ Bridge0 ∷ Bridge1 ∷ Bridge1 ∷ []
 
 returns : tie.Need-returns
-unfolding table every entry least named names
+unfolding table every entry least byRow inRow
 returns c = in-table table refl _
 
 pub device-of-spec : {M : Type 1} → statement M

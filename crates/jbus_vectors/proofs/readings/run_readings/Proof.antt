@@ -5,10 +5,10 @@ use Rattle.jbus_vectors.proofs.readings.run_readings.Statement.{stateme
 use Rattle.jbus_vectors.proofs.readings.run_readings.Tie as tie
 
 abbrev Inv-loop : tie.InvT-loop
-Inv-loop k₀ k = k ≤ 33
+Inv-loop k₀ k = k ≤ 35
 
 abbrev μ-loop : tie.MeasureT-loop
-μ-loop k₀ k = 33 - k
+μ-loop k₀ k = 35 - k
 
 loop-holds : tie.Need-loop-holds Inv-loop μ-loop
 loop-holds c = search needs
