@@ -7,19 +7,19 @@ static const uint8_t tape[] = {0x01, 0x00, 0x48, 0x09, 0x00, 0x01, 0x48, 0x01, 0
 static uint8_t memory[TRAINER_STORE], cache[TRAINER_STORE], directory[TRAINER_DIRECTORY];
 static uint32_t answer[TRAINER_ANSWER];
 
-/* One call, for a record of kind 0, 1 or 2 with these fields. */
+/* One call, for a record of one of the first three kinds with these fields. */
 static uint32_t call(uint64_t kind, uint32_t unit, uint32_t target, uint32_t value)
 {
-    if (kind == 0)
+    if (kind == TRAINER_KIND_LOAD)
         return trainer_load(directory, sizeof directory, memory, sizeof memory, cache, sizeof cache, unit, target, answer, TRAINER_ANSWER);
-    if (kind == 1)
+    if (kind == TRAINER_KIND_STORE)
         return trainer_store(directory, sizeof directory, memory, sizeof memory, cache, sizeof cache, unit, target, value, answer, TRAINER_ANSWER);
     return trainer_flush(directory, sizeof directory, memory, sizeof memory, cache, sizeof cache, unit, target, answer, TRAINER_ANSWER);
 }
 
 int main(void)
 {
-    static const char *const words[] = {"load", "store", "flush"};
+    static const char *const words[] = {[TRAINER_KIND_LOAD] = "load", [TRAINER_KIND_STORE] = "store", [TRAINER_KIND_FLUSH] = "flush"};
     unsigned calls = 0, orders = 0;
     size_t place = 0, next = 0;
     uint64_t n[TRAINER_RECORD];
@@ -33,13 +33,13 @@ int main(void)
             return 1;
         }
         place = next;
-        if (n[0] > 2)
+        if (n[0] > TRAINER_KIND_FLUSH)
             continue;
         if (call(n[0], (uint32_t)n[1], (uint32_t)n[2], (uint32_t)n[3]) != 0)
             return 1;
         printf("%s %u %u", words[n[0]], (unsigned)n[1], (unsigned)n[2]);
-        if (n[0] != 2)
-            printf(" %u", (unsigned)(n[0] == 0 ? answer[0] : n[3]));
+        if (n[0] != TRAINER_KIND_FLUSH)
+            printf(" %u", (unsigned)(n[0] == TRAINER_KIND_LOAD ? answer[0] : n[3]));
         printf(" orders %u\n", (unsigned)answer[1]);
         calls += 1;
         orders += answer[1];

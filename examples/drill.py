@@ -1,4 +1,4 @@
-"""Document 01's drill in one call, through a shared object made from the archive: python3 examples/drill.py target/outside/libtrainer.so"""
+"""Document 01's drill in one call, through the shared library: python3 examples/drill.py target/lib/libtrainer.so"""
 import ctypes
 import sys
 

@@ -4,7 +4,7 @@
 #include <stddef.h>
 #include <stdio.h>
 
-#include "trainer_jbus.h"
+#include "trainer.h"
 
 static void read_and_print(uint64_t upper, uint64_t lower)
 {

@@ -2,14 +2,15 @@
 #include <stdio.h>
 #include <string.h>
 
-#include "trainer_message.h"
+#include "trainer.h"
 
 static uint8_t message[600], store[TRAINER_MESSAGE];
 static uint64_t receiver[TRAINER_RECEIVER], completion[TRAINER_COMPLETION];
 
 int main(void)
 {
-    static const char *const words[] = {"Single", "First", "Middle", "Last"};
+    static const char *const words[] = {
+        [TRAINER_SINGLE] = "Single", [TRAINER_FIRST] = "First", [TRAINER_MIDDLE] = "Middle", [TRAINER_LAST] = "Last"};
     const uint32_t sender = 3, aid = 17;
     size_t operations, index, offset, length;
     uint32_t sequence, refusal;

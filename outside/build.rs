@@ -1,4 +1,4 @@
-//! With the feature `archive`: where the linker finds the three archives.
+//! With the feature `archive`: where the linker finds the library.
 use std::path::Path;
 
 fn main() {
@@ -7,10 +7,8 @@ fn main() {
         return;
     }
     let root = std::env::var("CARGO_MANIFEST_DIR").expect("cargo sets CARGO_MANIFEST_DIR");
-    let folder = Path::new(&root).join("../target/staticlib");
+    let folder = Path::new(&root).join("../target/lib");
+    println!("cargo:rerun-if-changed={}", folder.join("libtrainer.a").display());
     println!("cargo:rustc-link-search=native={}", folder.display());
-    for archive in ["capi", "capi_message", "capi_jbus"] {
-        println!("cargo:rerun-if-changed={}", folder.join(format!("lib{archive}.a")).display());
-        println!("cargo:rustc-link-lib=static={archive}");
-    }
+    println!("cargo:rustc-link-lib=static=trainer");
 }

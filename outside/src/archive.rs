@@ -1,5 +1,4 @@
-//! The proved library as C sees it (include/trainer.h, include/trainer_message.h, include/trainer_jbus.h), with slices in the place of
-//! pointers and lengths.
+//! The proved library as C sees it (include/trainer.h), with slices in the place of pointers and lengths.
 
 /// Numbers in the answer of a call: value, count of orders, and four orders of unit, command, block, retried.
 pub const ANSWER_NUMBERS: usize = 18;
@@ -59,6 +58,21 @@ mod foreign {
             tape: *const u8, tape_size: usize,
             text: *mut u8, text_size: usize,
             written: *mut usize,
+        ) -> u32;
+        pub fn trainer_parity(word: u64) -> u32;
+        pub fn trainer_check(word: u64, set: u32, wrong: *mut u32, count: *mut u32) -> u32;
+        pub fn trainer_lanes(ra: u32, bct: u32, words: *mut u32, positions: *mut u32) -> u32;
+        pub fn trainer_plan(
+            cycles: u32, cycle: u32, locked: u32,
+            bs: *mut u32, bur: *mut u32, et: *mut u32, et_at_request: *mut u32,
+        ) -> u32;
+        pub fn trainer_class(code: u32, class: *mut u32, carried: *mut u32, error: *mut u32) -> u32;
+        pub fn trainer_code(class: u32, carried: u32, code: *mut u32) -> u32;
+        pub fn trainer_handler(state: *mut u32, state_size: usize) -> u32;
+        pub fn trainer_arbitrate(
+            state: *mut u32, state_size: usize,
+            high: u32, low: u32, lck: u32,
+            grant: *mut u32, unit: *mut u32,
         ) -> u32;
         pub fn trainer_receive(
             receiver: *mut u64, receiver_size: usize,
@@ -157,6 +171,40 @@ pub fn write_record(numbers: &[u64], space: &mut [u8], written: &mut usize) -> u
 
 pub fn drill(tape: &[u8], text: &mut [u8], written: &mut usize) -> u32 {
     unsafe { foreign::trainer_drill(tape.as_ptr(), tape.len(), text.as_mut_ptr(), text.len(), written) }
+}
+
+pub fn parity(word: u64) -> u32 {
+    unsafe { foreign::trainer_parity(word) }
+}
+
+pub fn check(word: u64, set: u32, wrong: &mut u32, count: &mut u32) -> u32 {
+    unsafe { foreign::trainer_check(word, set, wrong, count) }
+}
+
+pub fn lanes(ra: u32, bct: u32, words: &mut u32, positions: &mut u32) -> u32 {
+    unsafe { foreign::trainer_lanes(ra, bct, words, positions) }
+}
+
+/// The four levels: BS, BUR, ET, and ET at the request.
+pub fn plan(cycles: u32, cycle: u32, locked: u32, levels: &mut [u32; 4]) -> u32 {
+    let [bs, bur, et, et_at_request] = levels;
+    unsafe { foreign::trainer_plan(cycles, cycle, locked, bs, bur, et, et_at_request) }
+}
+
+pub fn class(code: u32, class: &mut u32, carried: &mut u32, error: &mut u32) -> u32 {
+    unsafe { foreign::trainer_class(code, class, carried, error) }
+}
+
+pub fn code(class: u32, carried: u32, code: &mut u32) -> u32 {
+    unsafe { foreign::trainer_code(class, carried, code) }
+}
+
+pub fn handler(state: &mut [u32]) -> u32 {
+    unsafe { foreign::trainer_handler(state.as_mut_ptr(), state.len()) }
+}
+
+pub fn arbitrate(state: &mut [u32], high: u32, low: u32, lck: u32, grant: &mut u32, unit: &mut u32) -> u32 {
+    unsafe { foreign::trainer_arbitrate(state.as_mut_ptr(), state.len(), high, low, lck, grant, unit) }
 }
 
 pub fn receive(receiver: &mut [u64], store: &mut [u8], sequence: u32, sender: u32, aid: u32, bytes: &[u8], completion: &mut [u64]) -> u32 {

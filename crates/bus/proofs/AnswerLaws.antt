@@ -12,9 +12,10 @@ use Rattle.order.specs.Refusal.{accepted, fieldRange}
 use Rattle.bus.specs.declared.answer.Class.{Class}
 use Rattle.bus.specs.declared.answer.Class.the-variants.{NoError, NoErrorLock, ReservedNoError, UserNoError, HardwareError, IllegalCommand, BusSequenceError, ReservedError, UserError}
 use Rattle.bus.specs.declared.answer.CodeFound.the-variants.{Code, Refused}
-use Rattle.bus.specs.Answer.{classOf, codeNumber, inRow, codeOf, refusalOf, codeFound, isError, errorRow}
-use Rattle.bus.proofs.Cases.{le-or-lt, eq-or-ne}
-use Rattle.bus.proofs.RangeLaws.{within-in, within-true}
+use Rattle.numeric.specs.Range.{within}
+use Rattle.bus.specs.Answer.{classOf, codeNumber, inRow, codeOf, refusalOf, codeFound, isError, errorRow, Rows}
+use Rattle.numeric.proofs.Cases.{le-or-lt, eq-or-ne}
+use Rattle.numeric.proofs.RangeLaws.{within-in, within-true}
 
 -- ---- the four ranges
 
@@ -121,3 +122,16 @@ error-of-row =
     refl
     (λ c l u. le-leb 128 c (omega arith) ∙ ap errorRow (sym (class-reserved-error c l u)))
     (λ c l. le-leb 128 c (omega arith) ∙ ap errorRow (sym (class-user-error c l)))
+
+-- the rows by computing the definitions
+pub rows : Rows
+unfolding within classOf codeNumber inRow codeOf
+rows = record {
+  noError = (refl, refl);
+  noErrorLock = (refl, refl);
+  reservedNoError = (refl, refl);
+  hardwareError = (refl, refl);
+  illegalCommand = (refl, refl);
+  busSequenceError = (refl, refl);
+  reservedError = (refl, refl);
+}

@@ -11,12 +11,12 @@ use lib.Count.{ones, ones-cat, ones-le, ones-ones}
 use lib.Pow.{pow-pos, pow-add, pow-mono, shl-exact}
 use borrow.Author.Tests.{le-leb, lt-leb}
 use Rattle.order.specs.Refusal.{accepted, fieldRange}
-use Rattle.bus.specs.Range.{within}
-use Rattle.bus.specs.Bits.{bitAt, onesBelow, fromBits}
+use Rattle.numeric.specs.Range.{within}
+use Rattle.numeric.specs.Bits.{bitAt, onesBelow, fromBits}
 use Rattle.bus.specs.Lanes.{carriedAt, positionsOf, wordsOf, lanesOf}
-use Rattle.bus.proofs.Cases.{le-or-lt}
-use Rattle.bus.proofs.RangeLaws.{within-in, within-under, within-over}
-use Rattle.bus.proofs.BitsLaws.{from-step, from-none, from-lt, bit-from, ones-count}
+use Rattle.numeric.proofs.Cases.{le-or-lt}
+use Rattle.numeric.proofs.RangeLaws.{within-in, within-under, within-over}
+use Rattle.numeric.proofs.BitsLaws.{from-step, from-none, from-lt, bit-from, ones-count}
 
 -- ---- one position
 

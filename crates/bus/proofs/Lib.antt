@@ -1,7 +1,4 @@
 -- Laws of the definitions, shared by the functions' proofs and by those who use the bus.
-pub mod Cases
-pub mod RangeLaws
-pub mod BitsLaws
 pub mod ParityLaws
 pub mod LanesLaws
 pub mod TransferLaws

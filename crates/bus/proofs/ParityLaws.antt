@@ -6,9 +6,9 @@ use native.Mathlib.Nat.{pow-suc, lt-of-lt-of-le}
 use native.Mathlib.Omega.{arith}
 use lib.Pow.{pow-add, pow-mono, shl-exact, shr-shr, field, mod-mod-pow}
 use lib.Count.{ones, ones-step}
-use Rattle.bus.specs.Bits.{sumBelow, bitAt, onesBelow, fromBits, flipped}
+use Rattle.numeric.specs.Bits.{sumBelow, bitAt, onesBelow, fromBits, flipped}
 use Rattle.bus.specs.Parity.{byteAt, parityBit, parityOf, wrongBit, wrongAt, wrongOf, checkOf}
-use Rattle.bus.proofs.BitsLaws.{ones-count, from-step, from-none, from-lt, sum-same, sum-zero, sum-but, bit-of-zero, bit-from, ones-from, bit-flip, bit-other, from-flip}
+use Rattle.numeric.proofs.BitsLaws.{ones-count, from-step, from-none, from-lt, sum-same, sum-zero, sum-but, bit-of-zero, bit-from, ones-from, bit-flip, bit-other, from-flip}
 
 -- a byte and its parity bit together have an odd count of ones
 pub parity-odd : (byte : ℕ) → (onesBelow 8 byte + parityBit byte) % 2 ≡ 1

@@ -1,17 +1,17 @@
 -- The plan of an accepted cycle by how many cycles come after it, the two ways to be refused, and what lock changes.
 use Prim.Native.Nat.{ℕ, _+_, _-_, _≤_, _<_}
 use mathlib.Core.Bool.{Bool, true, false, cond, _&&_, and-false}
-use mathlib.Core.Logic.{_≢_, ⊎-elim}
+use mathlib.Core.Logic.{_≢_, _⊎_, ⊎-elim}
 use mathlib.Core.Path.{_≡_, refl, sym, _∙_}
 use native.Mathlib.Omega.{arith}
 use lib.Dec.{leb, eqb}
 use borrow.Author.Tests.{le-leb, lt-leb}
 use Rattle.order.specs.Refusal.{accepted}
-use Rattle.bus.specs.Range.{within}
+use Rattle.numeric.specs.Range.{within}
 use Rattle.bus.specs.declared.transfer.SignalPlan.{SignalPlan}
-use Rattle.bus.specs.Transfer.{etAtRequest, planOf, refusedPlan, withoutRequest, LockChanges}
-use Rattle.bus.proofs.Cases.{le-or-lt}
-use Rattle.bus.proofs.RangeLaws.{within-in, within-under, within-over}
+use Rattle.bus.specs.Transfer.{etAtRequest, planOf, refusedPlan, withoutRequest, LockChanges, RefusesPlan}
+use Rattle.numeric.proofs.Cases.{le-or-lt}
+use Rattle.numeric.proofs.RangeLaws.{within-in, within-under, within-over}
 
 -- a cycle is one of 1 to n - k exactly where k more come after it
 all-but : (n k cycle : ℕ) → 1 ≤ cycle → within 1 (n - k) cycle ≡ leb (cycle + k) n
@@ -65,3 +65,14 @@ no-other n cycle ne =
 pub lock-changes : LockChanges
 unfolding within planOf etAtRequest
 lock-changes = record { nothingElse = nothing-else; noOther = no-other; one = (refl, refl) }
+
+-- the two ways to be refused, in the paper's numbers and field by field
+outside : (most n : ℕ) → (n ≡ 0) ⊎ (most < n) → within 1 most n ≡ false
+outside most n h = ⊎-elim (λ (e : n ≡ 0). within-under 1 most n (omega arith)) (λ (l : most < n). within-over 1 most n l) h
+
+pub refuses-plan : RefusesPlan
+unfolding refusedPlan
+refuses-plan = record {
+  noTransfer = λ n cycle locked h. plan-no-transfer n cycle locked (outside 64 n h);
+  noCycle = λ n cycle locked h. plan-no-cycle n cycle locked (outside n cycle h);
+}

@@ -1,9 +1,10 @@
 -- Answer codes and their classes (document 01, "Answer codes", from the standard's Table 7; bit 0 read as most significant is a house rule).
 use Prim.Native.Nat.{ℕ, _+_, _-_}
 use mathlib.Core.Bool.{Bool, true, false, cond}
+use mathlib.Core.Path.{_≡_}
 use lib.Dec.{leb, eqb}
 use Rattle.order.specs.Refusal.{accepted, fieldRange}
-use Rattle.bus.specs.Range.{within}
+use Rattle.numeric.specs.Range.{within}
 use Rattle.bus.specs.declared.answer.Class.{Class}
 use Rattle.bus.specs.declared.answer.Class.the-variants.{NoError, NoErrorLock, ReservedNoError, UserNoError, HardwareError, IllegalCommand, BusSequenceError, ReservedError, UserError}
 use Rattle.bus.specs.declared.answer.CodeFound.{CodeFound}
@@ -74,3 +75,13 @@ errorRow IllegalCommand = true
 errorRow BusSequenceError = true
 errorRow (ReservedError n) = true
 errorRow (UserError n) = true
+
+-- the table's rows of one code, and the first code of each reserved row, read both ways
+pub record Rows : Type 0 where
+  pub noError : (classOf 0 ≡ NoError) × (codeOf NoError ≡ Code 0)
+  pub noErrorLock : (classOf 1 ≡ NoErrorLock) × (codeOf NoErrorLock ≡ Code 1)
+  pub reservedNoError : (classOf 2 ≡ ReservedNoError 2) × (codeOf (ReservedNoError 2) ≡ Code 2)
+  pub hardwareError : (classOf 128 ≡ HardwareError) × (codeOf HardwareError ≡ Code 128)
+  pub illegalCommand : (classOf 129 ≡ IllegalCommand) × (codeOf IllegalCommand ≡ Code 129)
+  pub busSequenceError : (classOf 130 ≡ BusSequenceError) × (codeOf BusSequenceError ≡ Code 130)
+  pub reservedError : (classOf 131 ≡ ReservedError 131) × (codeOf (ReservedError 131) ≡ Code 131)

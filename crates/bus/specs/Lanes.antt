@@ -3,8 +3,8 @@ use Prim.Native.Nat.{ℕ, _+_, _%_}
 use mathlib.Core.Bool.{cond}
 use lib.Dec.{leb}
 use Rattle.order.specs.Refusal.{accepted, fieldRange}
-use Rattle.bus.specs.Range.{within}
-use Rattle.bus.specs.Bits.{fromBits}
+use Rattle.numeric.specs.Range.{within}
+use Rattle.numeric.specs.Bits.{fromBits}
 use Rattle.bus.specs.declared.lanes.ByteLanes.{ByteLanes}
 
 -- whether position p holds one of the BCT + 1 bytes carried from position RA mod 8 onward, as 1 or 0

@@ -1,6 +1,4 @@
 -- The rules of the bus that need no cache.
-pub mod Range
-pub mod Bits
 pub mod Parity
 pub mod Lanes
 pub mod Transfer

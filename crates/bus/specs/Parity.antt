@@ -1,7 +1,7 @@
 -- Parity of a 64-bit word (document 01, "Parity, lanes, levels"; the standard's 2.1, item 19).
 -- Odd: a byte and its parity bit together hold an odd count of ones. Which byte is byte 0, and the weights, are house rules.
 use Prim.Native.Nat.{ℕ, _+_, _-_, _/_, _%_, _^_}
-use Rattle.bus.specs.Bits.{sumBelow, bitAt, onesBelow, fromBits}
+use Rattle.numeric.specs.Bits.{sumBelow, bitAt, onesBelow, fromBits}
 use Rattle.bus.specs.declared.parity.Checked.{Checked}
 
 -- byte k of a word; byte 0 is the most significant

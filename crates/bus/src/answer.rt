@@ -4,7 +4,7 @@ ghost use mathlib.Core.Path.{_≡_};
 ghost use mathlib.Core.Bool.{cond};
 ghost use Prim.Native.Nat.{_<_};
 ghost use Rattle.order.specs.Refusal.{fieldRange};
-ghost use Rattle.bus.specs.Range.{within};
+ghost use Rattle.numeric.specs.Range.{within};
 ghost use Rattle.bus.specs.Answer.{classOf, codeOf, isError};
 
 pub enum Class {

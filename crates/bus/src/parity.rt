@@ -1,7 +1,7 @@
 // Odd parity over the eight bytes of a word (2.1, item 19). Byte 0 is the most significant; byte k's parity bit has the weight 2 ^ k.
 ghost use mathlib.Core.Path.{_≡_};
 ghost use Prim.Native.Nat.{_<_};
-ghost use Rattle.bus.specs.Bits.{bitAt};
+ghost use Rattle.numeric.specs.Bits.{bitAt};
 ghost use Rattle.bus.specs.Parity.{byteAt, wrongBit, parityOf, wrongOf, checkOf};
 
 // The bytes that are wrong, in the weights of the parity bits, and how many they are.

@@ -1,4 +1,4 @@
-// Interrupts on J-Bus for programs in other languages: `include/trainer_jbus.h` declares these functions. Everything crosses as numbers. Each
+// Interrupts on J-Bus for programs in other languages: `include/trainer.h` declares these functions. Everything crosses as numbers. Each
 // function is total, and a refused call writes nothing.
 use jbus::AddressCycle;
 use jbus::CycleWritten;

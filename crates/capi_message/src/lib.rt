@@ -1,4 +1,4 @@
-// Messages between boards for programs in other languages: `include/trainer_message.h` declares these functions. Slices cross as pointer and
+// Messages between boards for programs in other languages: `include/trainer.h` declares these functions. Slices cross as pointer and
 // length, all else as numbers. Each function is total, and a refused call writes nothing.
 mod layout;
 mod operation;

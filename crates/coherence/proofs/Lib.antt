@@ -13,4 +13,5 @@ pub mod Accesses
 pub mod Steps
 pub mod Sessions
 pub mod Theorem
+pub mod Sentences
 pub mod Examples

@@ -8,4 +8,5 @@ pub mod Peek
 pub mod PlainMemory
 pub mod Demand3
 pub mod Snapshot
+pub mod Sentences
 pub mod Examples

@@ -1,8 +1,7 @@
 -- The claims about the drill of every tape.
-use Prim.Native.Nat.{ℕ, zero, suc, _+_, _-_, _≤_, _<_}
-use native.Mathlib.Nat.{zero-add, suc-add}
+use Prim.Native.Nat.{ℕ, suc, _+_}
 use native.Mathlib.Omega.{arith}
-use mathlib.Core.Path.{_≡_, refl, ap, sym, _∙_}
+use mathlib.Core.Path.{_≡_, refl, ap, _∙_}
 use mathlib.Core.Bool.{true, cond}
 use mathlib.Core.List.{List, [], _∷_, map}
 use lib.Dec.{leb}
@@ -18,16 +17,12 @@ use Rattle.coherence.proofs.Sessions.{sessions}
 use Rattle.coherence.proofs.Theorem.{demand3}
 use Rattle.tape.specs.declared.record.Record.{Record}
 use Rattle.tape.specs.declared.record.Record.the-variants as rec
-use Rattle.tape.specs.declared.record.RecordRead.{RecordRead}
-use Rattle.tape.specs.declared.record.RecordRead.the-variants as read
-use Rattle.tape.specs.Record.{recordAt, kindOf}
-use Rattle.tape.specs.RoundTrip.{ReadsAs}
-use Rattle.drill_text.specs.declared.run.Access.{Access}
-use Rattle.drill_text.specs.declared.run.Access.the-variants.{Asks, Other}
-use Rattle.drill_text.specs.Records.{finished, andMore, readOn, readFrom, readAll, accessOf, andCalls, callsOf}
+use Rattle.tape.specs.Record.{kindOf}
+use Rattle.reading.specs.Reading.{Started, readAll, accessOf, andCalls, callsOf}
+use Rattle.reading.specs.Claims.{AllAccepted}
+use Rattle.reading.proofs.ReadingLaws.{claims as reading}
 use Rattle.drill_text.specs.Drill.{zeroStore, callsIn, answersIn}
 use Rattle.drill_text.specs.Claims.{accesses, shown, sum, Claims}
-use Rattle.drill_text.proofs.RecordLaws.{Accepted, record-place, record-accepted}
 
 -- ---- counts
 
@@ -41,10 +36,10 @@ one-more (rec.Answer f t a c) cs = omega arith
 one-more (rec.Register f t a w x b) cs = omega arith
 one-more (rec.Loaded u v) cs = omega arith
 
-calls-counted : (rs : List Record) → length (callsOf rs) ≡ accesses rs
+calls-counted : (ss : List Started) → length (callsOf ss) ≡ accesses ss
 unfolding callsOf accesses
 calls-counted [] = refl
-calls-counted (r ∷ rs) = one-more r (callsOf rs) ∙ ap (λ (n : ℕ). cond (leb (kindOf r) 2) 1 0 + n) (calls-counted rs)
+calls-counted (s ∷ ss) = one-more (s .item) (callsOf ss) ∙ ap (λ (n : ℕ). cond (leb (kindOf (s .item)) 2) 1 0 + n) (calls-counted ss)
 
 answers-counted : (d : Directory) (m k : List ℕ) (cs : List Call) → length (answers d m k cs) ≡ length cs
 unfolding answers
@@ -58,29 +53,8 @@ orders-summed (r ∷ rs) = ap (λ (n : ℕ). length (ordersIn r) + n) (orders-su
 
 -- ---- no call is refused
 
--- the plain memory accepts each of the calls
-abbrev AllAccepted : List Call → Type 0
-AllAccepted [] = Unit {0}
-AllAccepted (c ∷ cs) = (plainAccepts c ≡ true) × AllAccepted cs
-
-accepted-more : (a : Access) (cs : List Call) → Accepted a → AllAccepted cs → AllAccepted (andCalls a cs)
-unfolding andCalls
-accepted-more (Asks c) cs h all = (h, all)
-accepted-more Other cs h all = all
-
-tape-accepted : (n : ℕ) (t : List ℕ) (at : ℕ) → AllAccepted (callsOf (readFrom n t at .records))
-unfolding readFrom readOn andMore callsOf
-tape-accepted zero t at = tt
-tape-accepted (suc n) t at = go (recordAt t at) refl (λ next. tape-accepted n t next)
-  where
-    go : (x : RecordRead) → recordAt t at ≡ x → ((next : ℕ) → AllAccepted (callsOf (readFrom n t next .records))) → AllAccepted (callsOf (readOn x (readFrom n t) .records))
-    go (read.Record r next) e more =
-        accepted-more (accessOf r) (callsOf (readFrom n t next .records)) (record-accepted t at r next e) (more next)
-    go read.Finished e more = tt
-    go (read.Refused number place) e more = tt
-
 all-accepted : (p : List ℕ) (cs : List Call) (rs : List Answer) → AllAccepted cs → map reply rs ≡ plainReplies p cs → Each (λ r. r .refusal ≡ 0) rs
-unfolding plainReplies plainReply reply Each
+unfolding plainReplies plainReply reply Each AllAccepted
 all-accepted p cs [] h e = tt
 all-accepted p [] (r ∷ rs) h e = absurd (let z : _≡_ {A = ℕ} 0 1 = cc in omega arith)
 all-accepted p (c ∷ cs) (r ∷ rs) h e =
@@ -99,52 +73,9 @@ unfolding Demand3Holds
 tape-demand3 cs =
     demand3 zeroStore (startAnswer zeroStore zeroStore) cs (answersCold zeroStore cs) _ _ _ (sessions zeroStore cs .some zeroStore zero-size zero-size)
 
--- ---- reading comes to its end
-
-one-step : (n : ℕ) (t : List ℕ) (at : ℕ) → length t < n + at → at ≤ length t → readFrom (suc n) t at ≡ readFrom n t at
-unfolding readFrom readOn
-one-step zero t at h l = absurd (omega arith)
-one-step (suc n) t at h l = go (recordAt t at) refl (λ next. one-step n t next)
-  where
-    go : (x : RecordRead) → recordAt t at ≡ x → ((next : ℕ) → length t < n + next → next ≤ length t → readFrom (suc n) t next ≡ readFrom n t next)
-        → readOn x (readFrom (suc n) t) ≡ readOn x (readFrom n t)
-    go (read.Record r next) e more =
-        let p = record-place t at r next e in
-        ap (andMore r) (more next (omega arith) (p .1))
-    go read.Finished e more = refl
-    go (read.Refused number place) e more = refl
-
-many-steps : (k : ℕ) (t : List ℕ) → readFrom (k + suc (length t)) t 0 ≡ readAll t
-unfolding readAll
-many-steps zero t = ap (λ (n : ℕ). readFrom n t 0) (zero-add (suc (length t)))
-many-steps (suc k) t = ap (λ (n : ℕ). readFrom n t 0) (suc-add k (suc (length t))) ∙ one-step (k + suc (length t)) t 0 (omega arith) (omega arith) ∙ many-steps k t
-
-ends-at : (n : ℕ) (t : List ℕ) → length t < n → readFrom n t 0 ≡ readAll t
-ends-at n t h =
-    let k : (n - suc (length t)) + suc (length t) ≡ n = omega arith in
-    ap (λ (i : ℕ). readFrom i t 0) (sym k) ∙ many-steps (n - suc (length t)) t
-
-reads-from : (n : ℕ) (t : List ℕ) (at : ℕ) → length t < n + at → at ≤ length t → readFrom n t at .ending ≡ finished → ReadsAs t at (readFrom n t at .records)
-unfolding readFrom readOn andMore ReadsAs
-reads-from zero t at h l e = absurd (omega arith)
-reads-from (suc n) t at h l e = go (recordAt t at) refl (λ next. reads-from n t next) e
-  where
-    go : (x : RecordRead) → recordAt t at ≡ x
-        → ((next : ℕ) → length t < n + next → next ≤ length t → readFrom n t next .ending ≡ finished → ReadsAs t next (readFrom n t next .records))
-        → readOn x (readFrom n t) .ending ≡ finished → ReadsAs t at (readOn x (readFrom n t) .records)
-    go (read.Record r next) q more f =
-        let p = record-place t at r next q in
-        (next, q, more next (omega arith) (p .1) f)
-    go read.Finished q more f = q
-    go (read.Refused number place) q more f = absurd (let z : _≡_ {A = ℕ} 0 1 = cc in omega arith)
-
-reads-all : (tape : List ℕ) → readAll tape .ending ≡ finished → ReadsAs tape 0 (readAll tape .records)
-unfolding readAll
-reads-all tape f = reads-from (suc (length tape)) tape 0 (omega arith) (omega arith) f
-
 in-tape : (tape : List ℕ) → AllAccepted (callsIn tape)
-unfolding callsIn readAll
-in-tape tape = tape-accepted (suc (length tape)) tape 0
+unfolding callsIn
+in-tape tape = reading tape .accepts
 
 answers-in : (tape : List ℕ) → length (answersIn tape) ≡ length (callsIn tape)
 unfolding answersIn answersCold
@@ -165,6 +96,4 @@ claims tape =
       plain = d .plain;
       total = orders-summed (answersIn tape);
       bill = d .bill;
-      reads = reads-all tape;
-      ends = λ n h. ends-at n tape h;
     }

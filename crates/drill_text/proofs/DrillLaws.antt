@@ -19,7 +19,7 @@ use Rattle.coherence.specs.Calls.{startAnswer, cacheStarted, answers, answersCo
 use Rattle.text.specs.Space.{placed}
 use Rattle.text.proofs.SpaceLaws.{placed-room, placed-none}
 use Rattle.drill_text.specs.declared.Drilled.{Drilled}
-use Rattle.drill_text.specs.Records.{readAll}
+use Rattle.reading.specs.Reading.{readAll}
 use Rattle.drill_text.specs.Line.{refusedLine}
 use Rattle.drill_text.specs.Drill.{tapeMost, textMost, zeroStore, callsIn, answersIn, drillText, drilledIn}
 use Rattle.drill_text.specs.Writing.{Puts, textFrom}
@@ -74,6 +74,11 @@ large text l o o′ n r e z h p =
     let q : Puts text o 0 o′ r = rw s at p in
     let m : r ≡ length text = q .next ∙ zero-add (length text) in
     (rw (le-leb (length text) (length o) (omega arith), m), q .bytes (omega arith) ∙ sym (placed-room o 0 text (le-leb (0 + length text) (length o) (omega arith))), λ k. refl)
+
+-- one run, where the space suffices for every text
+pub sure : (text o o′ : List ℕ) (r : ℕ) → Puts text o 0 o′ r → r ≤ textMost → textMost ≤ length o
+    → (_≡_ {A = Drilled} (record { refusal = 0; count = r }) (drilledIn text (length o))) × (o′ ≡ placed o 0 text) × (textMost ≤ length o → _≡_ {A = ℕ} 0 accepted)
+sure text o o′ r p b h = large text [] o o′ (0 + length text) r refl refl (let e = p .next in omega arith) p
 
 -- ---- for a caller: the count lies within the space
 

@@ -8,7 +8,7 @@ use Rattle.coherence.specs.declared.Answer.{Answer}
 use Rattle.coherence.specs.Demand3.{ordersIn}
 use Rattle.text.specs.Space.{ascii}
 use Rattle.text.proofs.DecimalLaws.{at-most}
-use Rattle.drill_text.specs.declared.run.Access.the-variants.{Asks}
+use Rattle.reading.specs.declared.Access.the-variants.{Asks}
 use Rattle.drill_text.specs.Line.{field, accessPart, ordersPart, callLine}
 use Rattle.drill_text.specs.Writing.{Short}
 

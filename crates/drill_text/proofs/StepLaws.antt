@@ -12,12 +12,12 @@ use Rattle.coherence.specs.Calls.{answer, answers, memoryAfter, cacheAfter}
 use Rattle.coherence.specs.Demand3.{ordersIn, ordersGiven}
 use Rattle.coherence.proofs.Counts.{answers-orders}
 use Rattle.tape.specs.declared.record.Record.{Record}
-use Rattle.drill_text.specs.declared.run.Access.the-variants.{Asks, Other}
+use Rattle.reading.specs.declared.Access.the-variants.{Asks, Other}
 use Rattle.drill_text.specs.declared.run.Progress.{Progress}
-use Rattle.drill_text.specs.Records.{Ending, andMore, andCalls, callsOf, accessOf}
+use Rattle.reading.specs.Reading.{Ending, andMore, andCalls, callsOf, accessOf}
 use Rattle.drill_text.specs.Line.{accessPart, ordersPart, callLine, lines}
 use Rattle.drill_text.specs.Drill.{lastLine}
-use Rattle.drill_text.specs.Writing.{Puts, textFrom, Called, Short, Took}
+use Rattle.drill_text.specs.Writing.{Puts, textFrom, Called, Short, Took, lineMost}
 use Rattle.drill_text.proofs.WritingLaws.{both}
 use Rattle.drill_text.proofs.LineLaws.{line-short}
 
@@ -57,26 +57,26 @@ later l a b c d e =
 
 -- a record that asks a call adds the call's line
 pub asked : (i : Record) (c : Call) (s r : Progress) (m k o m′ k′ o′ : List ℕ) → accessOf i ≡ Asks c → Called c s m k o r m′ k′ o′ → Took i s m k o r m′ k′ o′
-unfolding textFrom andMore callsOf andCalls answers lines ordersGiven
+unfolding textFrom andMore callsOf andCalls answers lines ordersGiven lineMost
 asked i c s r m k o m′ k′ o′ e q =
     record {
       part = callLine c (answer (s .directory) m k c);
       puts = q .line;
-      rest = λ g. rw (e, q .directory, q .memory, q .cache, q .calls, q .orders, append-assoc, later);
+      rest = λ start g. rw (e, q .directory, q .memory, q .cache, q .calls, q .orders, append-assoc, later);
       calls = omega (arith, q .calls);
       orders = omega (arith, q .orders, q .few);
-      short = λ h. omega (arith, q .line .next, line-short c (answer (s .directory) m k c) (subst Short e h) (q .value) (q .few));
+      short = λ h. rw e (omega (arith, q .line .next, line-short c (answer (s .directory) m k c) (subst Short e h) (q .value) (q .few)));
     }
 
 -- any other record adds nothing
 pub passed : (i : Record) (s : Progress) (m k o : List ℕ) → accessOf i ≡ Other → Took i s m k o s m k o
-unfolding textFrom andMore callsOf andCalls
+unfolding textFrom andMore callsOf andCalls lineMost
 passed i s m k o e =
     record {
       part = [];
       puts = nothing o (s .at);
-      rest = λ g. rw e;
+      rest = λ start g. rw e;
       calls = omega arith;
       orders = omega arith;
-      short = λ h. omega arith;
+      short = λ h. rw e (omega arith);
     }

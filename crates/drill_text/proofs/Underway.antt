@@ -12,13 +12,15 @@ use Rattle.tape.specs.Record.{recordAt}
 use Rattle.coherence.specs.Calls.{answers}
 use Rattle.coherence.specs.Demand3.{ordersGiven}
 use Rattle.drill_text.specs.declared.run.Progress.{Progress}
-use Rattle.drill_text.specs.Records.{readOn, readFrom, readAll, callsOf}
+use Rattle.reading.specs.Reading.{readOn, readFrom, readAll, callsOf}
 use Rattle.drill_text.specs.Line.{lines, totalLine, refusedLine}
 use Rattle.drill_text.specs.Drill.{lastLine}
 use Rattle.drill_text.specs.Writing.{Puts, textFrom, Took}
 use Rattle.drill_text.proofs.WritingLaws.{both}
 use Rattle.drill_text.proofs.StepLaws.{nothing}
-use Rattle.drill_text.proofs.RecordLaws.{record-place, record-short}
+use Rattle.reading.proofs.RecordLaws.{record-place}
+use Rattle.reading.proofs.ReadingLaws.{next-read}
+use Rattle.drill_text.proofs.RecordLaws.{record-line, record-short}
 
 -- from the progress s₀ and the stores m₀ and k₀, with the text o₀, the records of the tape t up to a place have led to s, m, k and o. `past` is
 -- what was put, and what is still to be read from the place gives the rest of the text
@@ -54,19 +56,13 @@ begun t s m k o a n p =
       cache = refl;
     }
 
--- what is read next, where steps are left
-next-read : (t : List ℕ) (n at : ℕ) (x : RecordRead) → length t < n + at → at ≤ length t → recordAt t at ≡ x → (f : ℕ) × (length t < suc (f + at)) × (readFrom n t at ≡ readOn x (readFrom f t))
-unfolding readFrom
-next-read t zero at x h w e = absurd (omega arith)
-next-read t (suc f) at x h w e = (f, omega arith, rw e)
-
 -- a record is taken
 module _ {t : List ℕ} {s₀ : Progress} {m₀ k₀ o₀ : List ℕ} {place : ℕ} {m k o : List ℕ} {s : Progress} (u : Underway t s₀ m₀ k₀ o₀ place m k o s) where
   pub onward : (i : Record) (next : ℕ) (m′ k′ o′ : List ℕ) (r : Progress)
       → recordAt t place ≡ read.Record i next → Took i s m k o r m′ k′ o′ → length m′ ≡ length m → length k′ ≡ length k → Underway t s₀ m₀ k₀ o₀ next m′ k′ o′ r
   unfolding readOn
   onward i next m′ k′ o′ r e q lm lk =
-      let x : (f : ℕ) × (length t < suc (f + place)) × (readFrom (u .steps) t place ≡ readOn (read.Record i next) (readFrom f t)) = next-read t (u .steps) place (read.Record i next) (u .enough) (u .within) e in
+      let x : (f : ℕ) × (length t < suc (f + place)) × (readFrom (u .steps) t place ≡ readOn place (read.Record i next) (readFrom f t)) = next-read t (u .steps) place (read.Record i next) (u .enough) (u .within) e in
       let p = record-place t place i next e in
       let h = q .short (record-short t place i next e) in
       record {
@@ -76,7 +72,7 @@ module _ {t : List ℕ} {s₀ : Progress} {m₀ k₀ o₀ : List ℕ} {place : �
         past = u .past ++ q .part;
         text = u .text ∙ rw (x .2, q .rest, append-assoc);
         put = both (u .put) (q .puts);
-        at = omega (arith, u .at);
+        at = omega (arith, u .at, record-line t place i next e);
         calls = omega (arith, u .calls, q .calls);
         orders = omega (arith, u .orders, q .orders);
         memory = lm ∙ u .memory;
@@ -85,10 +81,10 @@ module _ {t : List ℕ} {s₀ : Progress} {m₀ k₀ o₀ : List ℕ} {place : �
 
   -- the last line ends the text
   ended : (line : List ℕ) (x : RecordRead) (o′ : List ℕ) (r : ℕ) → recordAt t place ≡ x
-      → ((f : ℕ) → textFrom (s .directory) m k (s .calls) (s .orders) (readOn x (readFrom f t)) ≡ line)
+      → ((f : ℕ) → textFrom (s .directory) m k (s .calls) (s .orders) (readOn place x (readFrom f t)) ≡ line)
       → Puts line o (s .at) o′ r → Puts (textFrom (s₀ .directory) m₀ k₀ 0 0 (readAll t)) o₀ 0 o′ r
   ended line x o′ r e l q =
-      let y : (f : ℕ) × (length t < suc (f + place)) × (readFrom (u .steps) t place ≡ readOn x (readFrom f t)) = next-read t (u .steps) place x (u .enough) (u .within) e in
+      let y : (f : ℕ) × (length t < suc (f + place)) × (readFrom (u .steps) t place ≡ readOn place x (readFrom f t)) = next-read t (u .steps) place x (u .enough) (u .within) e in
       rw (u .text, y .2, l (y .0)) (both (u .put) q)
 
   pub finished-text : (o′ : List ℕ) (r : ℕ) → recordAt t place ≡ read.Finished → Puts (totalLine (s .calls) (s .orders)) o (s .at) o′ r

@@ -1,5 +1,5 @@
 -- What holds of the drill of every tape.
-use Prim.Native.Nat.{ℕ, _+_, _*_, _≤_, _<_}
+use Prim.Native.Nat.{ℕ, _+_, _*_, _≤_}
 use mathlib.Core.Path.{_≡_}
 use mathlib.Core.Bool.{cond}
 use mathlib.Core.List.{List, [], _∷_, map}
@@ -9,16 +9,14 @@ use Rattle.order.specs.Refusal.{accepted}
 use Rattle.coherence.specs.declared.Answer.{Answer}
 use Rattle.coherence.specs.PlainMemory.{plainReplies}
 use Rattle.coherence.specs.Demand3.{ordersIn, ordersGiven, reply, loads, stores, Each}
-use Rattle.tape.specs.declared.record.Record.{Record}
 use Rattle.tape.specs.Record.{kindOf}
-use Rattle.tape.specs.RoundTrip.{ReadsAs}
-use Rattle.drill_text.specs.Records.{finished, readFrom, readAll}
+use Rattle.reading.specs.Reading.{Started, readAll}
 use Rattle.drill_text.specs.Drill.{zeroStore, callsIn, answersIn}
 
 -- how many records are of the kinds 0 to 2
-unfoldable pub accesses : List Record → ℕ
+unfoldable pub accesses : List Started → ℕ
 accesses [] = 0
-accesses (r ∷ rs) = cond (leb (kindOf r) 2) 1 0 + accesses rs
+accesses (s ∷ ss) = cond (leb (kindOf (s .item)) 2) 1 0 + accesses ss
 
 -- the order count that the line of an answer shows
 unfoldable pub shown : Answer → ℕ
@@ -39,7 +37,3 @@ pub record Claims (tape : List ℕ) : Type 0 where
   -- the number of orders in the total is the sum of those in the lines, and by demand 3 at most the loads and three times the stores
   pub total : ordersGiven (answersIn tape) ≡ sum (map shown (answersIn tape))
   pub bill : ordersGiven (answersIn tape) ≤ loads (callsIn tape) + 3 * stores (callsIn tape)
-  -- a tape that gives a total reads as its records, and then "finished"
-  pub reads : readAll tape .ending ≡ finished → ReadsAs tape 0 (readAll tape .records)
-  -- reading comes to its end: more steps read no more
-  pub ends : (n : ℕ) → length tape < n → readFrom n tape 0 ≡ readAll tape

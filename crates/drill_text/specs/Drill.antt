@@ -11,7 +11,7 @@ use Rattle.coherence.specs.Bytes.{storeSize}
 use Rattle.coherence.specs.Calls.{answersCold}
 use Rattle.coherence.specs.Demand3.{ordersGiven}
 use Rattle.drill_text.specs.declared.Drilled.{Drilled}
-use Rattle.drill_text.specs.Records.{Ending, finished, refused, readAll, callsOf}
+use Rattle.reading.specs.Reading.{Ending, finished, refused, readAll, callsOf}
 use Rattle.drill_text.specs.Line.{lines, totalLine, refusedLine}
 
 -- "a tape of up to 65,536 bytes"

@@ -1,5 +1,4 @@
 -- What a drill prints, from the bytes of its tape.
-pub mod Records
 pub mod Line
 pub mod Drill
 pub mod Claims

@@ -10,10 +10,10 @@ use Rattle.coherence.specs.declared.Directory.{Directory}
 use Rattle.coherence.specs.Calls.{answer, answers, memoryAfter, cacheAfter}
 use Rattle.coherence.specs.Demand3.{ordersIn, ordersGiven}
 use Rattle.tape.specs.declared.record.Record.{Record}
-use Rattle.drill_text.specs.declared.run.Access.{Access}
-use Rattle.drill_text.specs.declared.run.Access.the-variants.{Asks, Other}
+use Rattle.reading.specs.declared.Access.{Access}
+use Rattle.reading.specs.declared.Access.the-variants.{Asks, Other}
 use Rattle.drill_text.specs.declared.run.Progress.{Progress}
-use Rattle.drill_text.specs.Records.{Reading, andMore, callsOf, accessOf}
+use Rattle.reading.specs.Reading.{Reading, andMore, callsOf, accessOf}
 use Rattle.drill_text.specs.Line.{callLine, lines}
 use Rattle.drill_text.specs.Drill.{lastLine}
 
@@ -47,14 +47,19 @@ Short (Asks (Store unit address value)) = (unit < 10) × (address < 10000) × (v
 Short (Asks (Flush unit block)) = (unit < 10) × (block < 10000)
 Short Other = Unit {0}
 
+-- the most that a record's line takes
+unfoldable pub lineMost : Access → ℕ
+lineMost (Asks c) = 33
+lineMost Other = 0
+
 -- a record, from the progress s: `part` is what it adds to the text
 pub record Took (i : Record) (s : Progress) (m k o : List ℕ) (r : Progress) (m′ k′ o′ : List ℕ) : Type 0 where
   pub part : List ℕ
   pub puts : Puts part o (s .at) o′ (r .at)
   pub rest :
-      (g : Reading)
-      → textFrom (s .directory) m k (s .calls) (s .orders) (andMore i g)
+      (start : ℕ) (g : Reading)
+      → textFrom (s .directory) m k (s .calls) (s .orders) (andMore start i g)
       ≡ part ++ textFrom (r .directory) m′ k′ (r .calls) (r .orders) g
   pub calls : r .calls ≤ s .calls + 1
   pub orders : r .orders ≤ s .orders + 4
-  pub short : Short (accessOf i) → r .at ≤ s .at + 33
+  pub short : Short (accessOf i) → r .at ≤ s .at + lineMost (accessOf i)

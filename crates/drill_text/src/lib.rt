@@ -44,6 +44,10 @@ fn play(tape: &[u8], out: &mut [u8]) -> usize
 pub fn drill(tape: &[u8], out: &mut [u8]) -> Drilled
     ensures { λ r. ⌜ (r ≡ drilledIn (drillText (now (tape .entry))) (length (now (out .entry)))) × (now (out .exit) ≡ placed (now (out .entry)) 0 (drillText (now (tape .entry)))) × (textMost ≤ length (now (out .entry)) → r .refusal ≡ accepted) ⌝ }
 {
+    if TEXT_MOST <= out.len() {
+        let count = play(tape, out);
+        return Drilled { refusal: 0, count };
+    }
     let size = play(tape, &mut out[0..0]);
     if out.len() < size {
         return Drilled {

@@ -2,7 +2,7 @@
 ghost use mathlib.Core.Path.{_≡_};
 ghost use Prim.Native.Nat.{_+_, _≤_, _<_, _^_};
 ghost use lib.ListN.{length};
-ghost use Rattle.drill_text.specs.Records.{accessOf, readAll};
+ghost use Rattle.reading.specs.Reading.{readAll};
 ghost use Rattle.drill_text.specs.Drill.{tapeMost, textMost};
 ghost use Rattle.drill_text.specs.Writing.{Puts, Called, Took, textFrom};
 use crate::line::put_access;
@@ -12,15 +12,11 @@ use crate::line::put_total;
 use coherence::Call;
 use coherence::Directory;
 use machine::run;
+use reading::Access;
+use reading::access_of;
 use tape::Record;
 use tape::RecordRead;
 use tape::read_record;
-
-// The call of a record that asks one of the machine.
-pub enum Access {
-    Asks(Call),
-    Other,
-}
 
 // A drill underway: the machine's directory, the place in the text, and the calls and orders so far.
 pub struct Progress {
@@ -28,36 +24,6 @@ pub struct Progress {
     pub at: usize,
     pub calls: u64,
     pub orders: u64,
-}
-
-fn access_of(item: Record) -> Access
-    ensures { λ r. ⌜ r ≡ accessOf item ⌝ }
-{
-    match item {
-        Record::Load(unit, address) => Access::Asks(Call::Load { unit, address }),
-        Record::Store(unit, address, value) => Access::Asks(Call::Store {
-            unit,
-            address,
-            value,
-        }),
-        Record::Flush(unit, block) => Access::Asks(Call::Flush { unit, block }),
-        Record::Order(_) => Access::Other,
-        Record::Answer {
-            from: _,
-            to: _,
-            aid: _,
-            code: _,
-        } => Access::Other,
-        Record::Register {
-            from: _,
-            to: _,
-            aid: _,
-            write: _,
-            ra: _,
-            bct: _,
-        } => Access::Other,
-        Record::Loaded(_, _) => Access::Other,
-    }
 }
 
 // One call of the machine, and its line.

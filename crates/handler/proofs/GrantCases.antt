@@ -11,7 +11,8 @@ use Rattle.handler.specs.declared.Lock.{Lock}
 use Rattle.handler.specs.declared.Lock.the-variants.{Free, Owner}
 use Rattle.handler.specs.declared.State.{State}
 use Rattle.handler.specs.declared.Arbitration.{Arbitration}
-use Rattle.handler.specs.Handler.{lastUnit, requests, contains, locked, distance, firstMet, granted, nobody, byTurn, lowGrant, grantNext, lockAllowed, allowed, refused, arbitration}
+use Rattle.handler.specs.Handler.{lastUnit, requests, locked, distance, firstMet, granted, nobody, byTurn, lowGrant, grantNext, lockAllowed, allowed, refused, arbitration}
+use Rattle.numeric.specs.Bits.{contains}
 use Rattle.handler.proofs.RoundRobin.{first-met-member, first-met-nearest, first-met-unit}
 use Rattle.handler.proofs.StateParts.{last-locked}
 use Rattle.handler.proofs.Allowed.{last-allowed, lock-allowed, owner-allowed, locked-allowed, requests-allowed, call-state-allowed}

@@ -13,7 +13,8 @@ use Rattle.handler.specs.declared.State.{State}
 use Rattle.handler.specs.declared.Grant.{Grant}
 use Rattle.handler.specs.declared.Grant.the-variants.{Nobody, To}
 use Rattle.handler.specs.declared.Arbitration.{Arbitration}
-use Rattle.handler.specs.Handler.{lastUnit, ownerOf, requests, contains, unitGranted, lockNext, locked, distance, firstMet, granted, nobody, byTurn, grantNext, lockAllowed, stateAllowed, allowed, refused, arbitration, initial}
+use Rattle.handler.specs.Handler.{lastUnit, ownerOf, requests, unitGranted, lockNext, locked, distance, firstMet, granted, nobody, byTurn, grantNext, lockAllowed, stateAllowed, allowed, refused, arbitration, initial}
+use Rattle.numeric.specs.Bits.{contains}
 use Rattle.handler.proofs.RoundRobin.{with-member}
 use Rattle.handler.proofs.StateParts.{unit-granted, granted-some, granted-same, granted-other, not-granted, owner-of, no-owner, lock-within, last-moved, last-kept, lock-moved, last-locked}
 use Rattle.handler.proofs.Allowed.{last-allowed, lock-allowed, owner-allowed, state-allowed, locked-allowed, moved-allowed, requests-allowed, call-state-allowed, call-allowed}

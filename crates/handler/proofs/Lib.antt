@@ -8,3 +8,4 @@ pub mod Lists
 pub mod WaitingCall
 pub mod WaitingLaws
 pub mod WaitingExamples
+pub mod RuleLaws

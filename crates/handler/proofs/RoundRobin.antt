@@ -9,7 +9,8 @@ use native.Mathlib.Numerals.{add-one}
 use native.Mathlib.Omega.{arith}
 use lib.Pow.{shr-shr}
 use borrow.Author.Tests.{eqb-true, eqb-false}
-use Rattle.handler.specs.Handler.{contains, met, distance, passed, firstMet}
+use Rattle.handler.specs.Handler.{met, distance, passed, firstMet}
+use Rattle.numeric.specs.Bits.{bitAt, contains}
 
 -- the k-th unit met is at distance k, and a unit is met at its distance
 
@@ -73,7 +74,7 @@ passed-others (suc n) set last k j a b = on (contains set (met last k)) refl (pa
 
 -- a set that has a member isn't empty
 pub with-member : (set u : ℕ) → contains set u ≡ true → set ≡ 0 → ⊥
-unfolding contains
+unfolding bitAt contains
 with-member set u e z =
     let q : set / 2 ^ u ≡ 0 = rw z (zero-div (2 ^ u)) in
     let m : set / 2 ^ u % 2 ≡ 1 = eqb-true (set / 2 ^ u % 2) 1 e in
@@ -81,7 +82,7 @@ with-member set u e z =
 
 -- a set that has none of the eight units is empty
 pub without-units : (set : ℕ) → set ≤ 255 → ((u : ℕ) → u ≤ 7 → contains set u ≡ false) → set ≡ 0
-unfolding contains
+unfolding bitAt contains
 without-units set h none = down 8 (omega arith) (omega arith)
   where
     even : (x : ℕ) → (x % 2 ≡ 1 → ⊥) → x / 2 ≡ 0 → x ≡ 0

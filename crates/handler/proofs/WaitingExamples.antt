@@ -5,11 +5,12 @@ use mathlib.Core.Option.{Option·elim}
 use native.Mathlib.Omega.{arith}
 use Rattle.handler.specs.declared.Class.{Class}
 use Rattle.handler.specs.declared.Class.the-variants.{High, Low}
-use Rattle.handler.specs.Handler.{lastUnit, ownerOf, requests, contains, unitGranted, lockNext, locked, met, passed, firstMet, moved, granted, nobody, byTurn, lowGrant, grantNext, lockAllowed, stateAllowed, setsAllowed, allowed, refused, arbitration, initial}
+use Rattle.handler.specs.Handler.{lastUnit, ownerOf, requests, unitGranted, lockNext, locked, met, passed, firstMet, moved, granted, nobody, byTurn, lowGrant, grantNext, lockAllowed, stateAllowed, setsAllowed, allowed, refused, arbitration, initial}
+use Rattle.numeric.specs.Bits.{bitAt, contains}
 use Rattle.handler.specs.Waiting.{answer, calls, isAccepted, asks, isGrant, isGrantTo, isUnlocked, isClear, only, each, grantedAmong, Stays, everyone, eightCalls, TightCalls, lowGrantsApart, callsApart, EightIsTight}
 
 pub eight-is-tight : EightIsTight
-unfolding eightCalls lowGrantsApart callsApart everyone calls answer isAccepted asks isGrant isGrantTo isUnlocked isClear only each grantedAmong Stays Option·elim lastUnit ownerOf requests contains unitGranted lockNext locked met passed firstMet moved granted nobody byTurn lowGrant grantNext lockAllowed stateAllowed setsAllowed allowed refused arbitration initial
+unfolding eightCalls lowGrantsApart callsApart everyone calls answer isAccepted asks isGrant isGrantTo isUnlocked isClear only each grantedAmong Stays Option·elim lastUnit ownerOf requests bitAt contains unitGranted lockNext locked met passed firstMet moved granted nobody byTurn lowGrant grantNext lockAllowed stateAllowed setsAllowed allowed refused arbitration initial
 eight-is-tight = record {
   calls = each-class;
   apart = record { accepts = refl; grants = refl; unlocked = refl; locked = refl; stays = refl; notInSeven = refl; inEight = refl };

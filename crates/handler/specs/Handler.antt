@@ -4,6 +4,7 @@ use Prim.Native.Nat.{ℕ, zero, suc, _+_, _-_, _/_, _%_, _^_}
 use mathlib.Core.Bool.{Bool, true, false, cond, _&&_}
 use mathlib.Core.Option.{Option, none, some}
 use lib.Dec.{eqb, leb}
+use Rattle.numeric.specs.Bits.{contains}
 use Rattle.order.specs.Refusal.{accepted, badState}
 use Rattle.handler.specs.declared.Class.{Class}
 use Rattle.handler.specs.declared.Class.the-variants.{High, Low}
@@ -30,10 +31,6 @@ ownerOf (Owner u) = some u
 unfoldable pub requests : Class → ℕ → ℕ → ℕ
 requests High high low = high
 requests Low high low = low
-
--- whether unit u is in the set
-unfoldable pub contains : ℕ → ℕ → Bool
-contains set u = eqb (set / 2 ^ u % 2) 1
 
 -- the unit granted in a class, if there is one
 unfoldable pub unitGranted : Class → Grant → Option ℕ

@@ -1,3 +1,4 @@
 -- The bus handler.
 pub mod Handler
 pub mod Waiting
+pub mod Rule

@@ -11,7 +11,8 @@ use Rattle.handler.specs.declared.Class.{Class}
 use Rattle.handler.specs.declared.Class.the-variants.{High, Low}
 use Rattle.handler.specs.declared.State.{State}
 use Rattle.handler.specs.declared.Arbitration.{Arbitration}
-use Rattle.handler.specs.Handler.{ownerOf, requests, contains, unitGranted, stateAllowed, setsAllowed, arbitration, initial}
+use Rattle.handler.specs.Handler.{ownerOf, requests, unitGranted, stateAllowed, setsAllowed, arbitration, initial}
+use Rattle.numeric.specs.Bits.{contains}
 
 -- ---- a list of calls
 

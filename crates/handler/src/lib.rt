@@ -3,7 +3,8 @@ use order::BAD_STATE;
 ghost use mathlib.Core.Path.{_≡_};
 ghost use mathlib.Core.Bool.{true};
 ghost use Prim.Native.Nat.{_≤_};
-ghost use Rattle.handler.specs.Handler.{contains, met, firstMet, lockNext, moved, granted, nobody, lowGrant, grantNext, lockAllowed, stateAllowed, allowed, arbitration, initial};
+ghost use Rattle.handler.specs.Handler.{met, firstMet, lockNext, moved, granted, nobody, lowGrant, grantNext, lockAllowed, stateAllowed, allowed, arbitration, initial};
+ghost use Rattle.numeric.specs.Bits.{contains};
 
 // How a unit asks for the bus: by RQH or by RQL.
 pub enum Class {

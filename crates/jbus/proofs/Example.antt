@@ -7,4 +7,16 @@ use Rattle.jbus.specs.Example.{cycle, Example}
 
 pub example : Example
 unfolding firstRefusal lowBits inRow byRow deviceOf transactionOf reservedOf targetOf agentOf lowReservedOf halvesTest transactionTest reservedTest readRefusal interruptOf interruptRead writeRefusal halfOf cycleOf cycleWritten cycle
-example = record { written = refl; read = refl }
+example = record {
+  written = refl;
+  readIllegal = refl;
+  read = refl;
+  processor = (refl, refl);
+  notSupported = (refl, refl);
+  illegal = (refl, refl);
+  notSupportedAbove = (refl, refl);
+  bridge0 = (refl, refl);
+  bridge1 = (refl, refl);
+  processorAgain = (refl, refl);
+  illegalAgain = (refl, refl);
+}

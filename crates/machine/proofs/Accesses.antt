@@ -2,22 +2,29 @@
 use mathlib.Core.Path.{_≡_, refl, sym, ap, _∙_}
 use mathlib.Core.Bool.{Bool, true, false, cond, false≢true}
 use mathlib.Core.List.{List, [], _∷_, _++_, append-assoc}
-use Prim.Native.Nat.{ℕ, _/_}
+use Prim.Native.Nat.{ℕ, _+_, _/_, _≤_, _<_}
+use native.Mathlib.Omega.{arith}
 use lib.Dec.{ltb}
+use lib.ListN.{length}
+use borrow.Author.Tests.{ltb-true}
 use Rattle.order.specs.declared.Command.{Command}
 use Rattle.order.specs.declared.Command.the-variants.{Read, ModifiedRead, Invalidate, Copyback}
 use Rattle.order.specs.declared.Order.{Order}
 use Rattle.coherence.specs.declared.Slot.{Slot}
 use Rattle.coherence.specs.declared.Slot.the-variants.{Invalid, Shared, Modified}
 use Rattle.coherence.specs.declared.Directory.{Directory}
-use Rattle.coherence.specs.Bytes.{blockAt, putBlock, putWord}
-use Rattle.coherence.specs.Slots.{place, slotAt, setSlot, holds, modified, ownerOf}
+use Rattle.coherence.specs.Bytes.{blockAt, putBlock, wordAt, putWord}
+use Rattle.coherence.specs.Refusal.{isAddress}
+use Rattle.coherence.specs.Slots.{place, slotAt, setSlot, blockOf, holds, modified, ownerOf}
 use Rattle.coherence.specs.Access.{Run, ready, give, mark, writeBack, copyback, emptied, empty, yield, ask, fill, fetch, own, write, cachePlace, load, store, flush}
-use Rattle.coherence.proofs.SlotLaws.{holds-invalid}
-use Rattle.machine.specs.Directory.{claimedAtOnce}
-use Rattle.machine.specs.Access.{order, evictionOrders, askOrders, fetchOrders, evictedMemory, yieldedMemory, fetchedMemory, fetchedCache, yieldedDirectory, fetchedDirectory}
-use Rattle.machine.proofs.Sets.{set-over, set-past, owner-past}
-use Rattle.machine.proofs.Claims.{claim-is}
+use Rattle.coherence.proofs.SlotLaws.{place-lt, holds-invalid}
+use Rattle.slots.specs.Directory.{claimedAtOnce, yieldedDirectory, fetchedDirectory}
+use Rattle.orders.specs.Orders.{order, evictionOrders, askOrders, fetchOrders}
+use Rattle.bytes.specs.Moves.{copied, wordIn, wordPut, evictedMemory, yieldedMemory, fetchedMemory, fetchedCache}
+use Rattle.slots.proofs.Sets.{set-over, set-past, owner-past}
+use Rattle.slots.proofs.Claims.{claim-is}
+use Rattle.bytes.proofs.StoreLaws.{copied-is, word-is, put-is, length-evicted, length-fetched}
+use Rattle.machine.proofs.Refusals.{Sized, Known, address-of}
 
 -- a machine by its parts
 abbrev pub machine : Directory → List ℕ → List ℕ → List Order → Run
@@ -35,40 +42,51 @@ not-modified Invalid b h = refl
 not-modified (Shared c) b h = refl
 not-modified (Modified c) b h = h
 
--- ---- the actions
-emptied-is : (u n : ℕ) (x : Slot) (d : Directory) (m c : List ℕ)
-    → emptied u n x (machine d m c []) ≡ machine (emptiedDirectory n x d) (evictedMemory n x m c) c (evictionOrders u x)
-unfolding emptied emptiedDirectory evictedMemory evictionOrders mark copyback writeBack give order
-emptied-is u n Invalid d m c = refl
-emptied-is u n (Shared b) d m c = refl
-emptied-is u n (Modified b) d m c =
-    ap (λ (e : Directory). machine e (putBlock m b (blockAt c n)) c (order u Copyback b false ∷ [])) (set-over d n (Shared b) Invalid)
+-- ---- stores of their size
+-- a block of one goes to a block of the other
+moved : (m c : List ℕ) (n b : ℕ) → Sized m c → n < 64 → b < 64 → copied c n m b ≡ putBlock m b (blockAt c n)
+moved m c n b z l h =
+    let p : n < length c / 32 = omega (arith, z .cache) in
+    let q : b < length m / 32 = omega (arith, z .memory) in
+    copied-is c m n b p q
 
-empty-is : (u n : ℕ) (d : Directory) (m c : List ℕ)
+-- ---- the actions
+emptied-is : (u n : ℕ) (x : Slot) (d : Directory) (m c : List ℕ) → Sized m c → n < 64 → blockOf x < 64
+    → emptied u n x (machine d m c []) ≡ machine (emptiedDirectory n x d) (evictedMemory n x m c) c (evictionOrders u x)
+unfolding blockOf emptied emptiedDirectory evictedMemory evictionOrders mark copyback writeBack give order
+emptied-is u n Invalid d m c z l h = refl
+emptied-is u n (Shared b) d m c z l h = refl
+emptied-is u n (Modified b) d m c z l h =
+    ap (λ (e : Directory). machine e (putBlock m b (blockAt c n)) c (order u Copyback b false ∷ [])) (set-over d n (Shared b) Invalid)
+    ∙ ap (λ (m′ : List ℕ). machine (setSlot d n Invalid) m′ c (order u Copyback b false ∷ [])) (sym (moved m c n b z l h))
+
+empty-is : (u n : ℕ) (d : Directory) (m c : List ℕ) → Sized m c → n < 64 → blockOf (slotAt d n) < 64
     → empty u n (machine d m c []) ≡ machine (emptiedDirectory n (slotAt d n) d) (evictedMemory n (slotAt d n) m c) c (evictionOrders u (slotAt d n))
 unfolding empty
-empty-is u n d m c = emptied-is u n (slotAt d n) d m c
+empty-is u n d m c z l h = emptied-is u n (slotAt d n) d m c z l h
 
 three : (os : List Order) (x y z : Order) → os ++ (x ∷ []) ++ (y ∷ []) ++ (z ∷ []) ≡ os ++ (x ∷ y ∷ z ∷ [])
 three os x y z = simp append-assoc
 
-ask-is : (u : ℕ) (k : Command) (b : ℕ) (d : Directory) (m c : List ℕ) (os : List Order)
+ask-is : (u : ℕ) (k : Command) (b : ℕ) (d : Directory) (m c : List ℕ) (os : List Order) → Sized m c → b < 64
     → ask u k b (machine d m c os)
     ≡ machine (yieldedDirectory b (ownerOf d b) d) (yieldedMemory b (ownerOf d b) m c) c (os ++ askOrders u k b (ownerOf d b))
 unfolding ask give yield copyback mark writeBack yieldedDirectory yieldedMemory askOrders order
-ask-is u k b d m c os = go (ownerOf d b)
+ask-is u k b d m c os z h = go (ownerOf d b)
   where
     go : (v : ℕ) → give u k b false (yield u k b v (machine d m c os)) ≡ machine (yieldedDirectory b v d) (yieldedMemory b v m c) c (os ++ askOrders u k b v)
-    go v = by (ltb v 4)
+    go v = by (ltb v 4) refl
       where
-        by : (t : Bool)
+        by : (t : Bool) → ltb v 4 ≡ t
             → give u k b false (cond t (copyback v (place v b) b (give u k b true (machine d m c os))) (machine d m c os))
-            ≡ machine (cond t (setSlot d (place v b) (Shared b)) d) (cond t (putBlock m b (blockAt c (place v b))) m) c
+            ≡ machine (cond t (setSlot d (place v b) (Shared b)) d) (cond t (copied c (place v b) m b) m) c
             (os ++ cond t (order u k b true ∷ order v Copyback b false ∷ order u k b false ∷ []) (order u k b false ∷ []))
-        by true =
+        by true e =
+            let os′ : List Order = os ++ (order u k b true ∷ order v Copyback b false ∷ order u k b false ∷ []) in
             ap (machine (setSlot d (place v b) (Shared b)) (putBlock m b (blockAt c (place v b))) c)
             (three os (order u k b true) (order v Copyback b false) (order u k b false))
-        by false = refl
+            ∙ ap (λ (m′ : List ℕ). machine (setSlot d (place v b) (Shared b)) m′ c os′) (sym (moved m c (place v b) b z (place-lt v b (ltb-true v 4 e)) h))
+        by false e = refl
 
 -- emptying a slot that does not hold b moves no owner of b
 owner-emptied : (d : Directory) (n b : ℕ) → holds (slotAt d n) b ≡ false → ownerOf (emptiedDirectory n (slotAt d n) d) b ≡ ownerOf d b
@@ -98,22 +116,42 @@ filled-over d n b v x = go x (ltb v 4)
     go (Modified c) false = set-over d n Invalid (Shared b)
 
 -- unit u, which does not hold block b, gets it by the order k
-fetch-is : (u : ℕ) (k : Command) (b : ℕ) (d : Directory) (m c : List ℕ) → holds (slotAt d (place u b)) b ≡ false
+fetch-is : (u : ℕ) (k : Command) (b : ℕ) (d : Directory) (m c : List ℕ) (good : Bool) → Known d m c u good → b < 64 → holds (slotAt d (place u b)) b ≡ false
     → let n = place u b in let x = slotAt d n in let v = ownerOf d b in
     fetch u k b (ready d m c) ≡ machine (fetchedDirectory n b v d) (fetchedMemory n b x v m c) (fetchedCache n b x v m c) (fetchOrders u k b x v)
 unfolding fetch ready fill fetchedMemory fetchedCache fetchOrders
-fetch-is u k b d m c h =
+fetch-is u k b d m c good q l h =
     let n : ℕ = place u b in
     let x : Slot = slotAt d n in
     let e : Directory = emptiedDirectory n x d in
     let m₁ : List ℕ = evictedMemory n x m c in
-    ap (λ (w : Run). fill n b (ask u k b w)) (empty-is u n d m c)
-    ∙ ap (fill n b) (ask-is u k b e m₁ c (evictionOrders u x))
+    let v : ℕ = ownerOf d b in
+    let m₂ : List ℕ = fetchedMemory n b x v m c in
+    let os : List Order = fetchOrders u k b x v in
+    let z₁ : Sized m₁ c = record { memory = length-evicted n x m c ∙ q .sizes .memory; cache = q .sizes .cache } in
+    let z₂ : Sized c m₂ = record { memory = q .sizes .cache; cache = length-fetched n b x v m c .0 ∙ q .sizes .memory } in
+    ap (λ (w : Run). fill n b (ask u k b w)) (empty-is u n d m c (q .sizes) (place-lt u b (q .unit)) (q .block b))
+    ∙ ap (fill n b) (ask-is u k b e m₁ c (evictionOrders u x) z₁ l)
     ∙ ap (λ (v : ℕ). fill n b (machine (yieldedDirectory b v e) (yieldedMemory b v m₁ c) c (evictionOrders u x ++ askOrders u k b v))) (owner-emptied d n b h)
-    ∙ ap
-    (λ (f : Directory).
-    machine f (fetchedMemory n b x (ownerOf d b) m c) (fetchedCache n b x (ownerOf d b) m c) (fetchOrders u k b x (ownerOf d b)))
-    (filled-over d n b (ownerOf d b) x)
+    ∙ ap (λ (f : Directory). machine f m₂ (putBlock c n (blockAt m₂ b)) os) (filled-over d n b v x)
+    ∙ ap (λ (c′ : List ℕ). machine (fetchedDirectory n b v d) m₂ c′ os) (sym (moved c m₂ b n z₂ l (place-lt u b (q .unit))))
+
+-- ---- addresses
+block-lt : (a : ℕ) → isAddress a ≡ true → a / 32 < 64
+block-lt a e = omega (arith, address-of a e .1)
+
+-- the word at address a in unit u's slot
+in-cache : (u a : ℕ) (d : Directory) (m c : List ℕ) (l : List ℕ) → Known d m c u (isAddress a) → length l ≡ length c → cachePlace u a + 4 ≤ length l
+unfolding cachePlace place
+in-cache u a d m c l q e = omega (arith, q .sizes .cache, q .unit, address-of a (q .target) .0)
+
+pub loaded-in : (u a : ℕ) (d : Directory) (m c : List ℕ) (l : List ℕ) → Known d m c u (isAddress a) → length l ≡ length c
+    → wordIn l (cachePlace u a) ≡ wordAt l (cachePlace u a)
+loaded-in u a d m c l q e = word-is l (cachePlace u a) (in-cache u a d m c l q e)
+
+stored-in : (u a v : ℕ) (d : Directory) (m c : List ℕ) (l : List ℕ) → Known d m c u (isAddress a) → length l ≡ length c
+    → putWord l (cachePlace u a) v ≡ wordPut l (cachePlace u a) v
+stored-in u a v d m c l q e = sym (put-is l (cachePlace u a) v (in-cache u a d m c l q e))
 
 -- ---- loads
 pub load-held : (u a : ℕ) (d : Directory) (m c : List ℕ) → holds (slotAt d (place u (a / 32))) (a / 32) ≡ true
@@ -121,44 +159,53 @@ pub load-held : (u a : ℕ) (d : Directory) (m c : List ℕ) → holds (slotAt d
 unfolding load ready
 load-held u a d m c h = rw h
 
-pub load-missed : (u a : ℕ) (d : Directory) (m c : List ℕ) → holds (slotAt d (place u (a / 32))) (a / 32) ≡ false
+pub load-missed : (u a : ℕ) (d : Directory) (m c : List ℕ) → Known d m c u (isAddress a) → holds (slotAt d (place u (a / 32))) (a / 32) ≡ false
     → let b = a / 32 in let n = place u b in let x = slotAt d n in let v = ownerOf d b in
     load u a (ready d m c) ≡ machine (fetchedDirectory n b v d) (fetchedMemory n b x v m c) (fetchedCache n b x v m c) (fetchOrders u Read b x v)
 unfolding load ready
-load-missed u a d m c h = rw h (fetch-is u Read (a / 32) d m c h)
+load-missed u a d m c q h = rw h (fetch-is u Read (a / 32) d m c (isAddress a) q (block-lt a (q .target)) h)
 
 -- ---- stores
-pub store-owned : (u a v : ℕ) (d : Directory) (m c : List ℕ) → modified (slotAt d (place u (a / 32))) (a / 32) ≡ true
-    → store u a v (ready d m c) ≡ machine d m (putWord c (cachePlace u a) v) []
+pub store-owned : (u a v : ℕ) (d : Directory) (m c : List ℕ) → Known d m c u (isAddress a) → modified (slotAt d (place u (a / 32))) (a / 32) ≡ true
+    → store u a v (ready d m c) ≡ machine d m (wordPut c (cachePlace u a) v) []
 unfolding store own write ready
-store-owned u a v d m c h = rw h
+store-owned u a v d m c q h = rw h (ap (λ (c′ : List ℕ). machine d m c′ []) (stored-in u a v d m c c q refl))
 
-pub store-shared : (u a v : ℕ) (d : Directory) (m c : List ℕ) → modified (slotAt d (place u (a / 32))) (a / 32) ≡ false
+pub store-shared : (u a v : ℕ) (d : Directory) (m c : List ℕ) → Known d m c u (isAddress a) → modified (slotAt d (place u (a / 32))) (a / 32) ≡ false
     → holds (slotAt d (place u (a / 32))) (a / 32) ≡ true
-    → store u a v (ready d m c) ≡ machine (claimedAtOnce u (a / 32) d) m (putWord c (cachePlace u a) v) (order u Invalidate (a / 32) false ∷ [])
+    → store u a v (ready d m c) ≡ machine (claimedAtOnce u (a / 32) d) m (wordPut c (cachePlace u a) v) (order u Invalidate (a / 32) false ∷ [])
 unfolding store own write ready give order
-store-shared u a v d m c g h =
-    rw (g, h) (ap (write u a v) (claim-is u (a / 32) (give u Invalidate (a / 32) false (ready d m c))))
+store-shared u a v d m c q g h =
+    rw (g, h)
+    (ap (write u a v) (claim-is u (a / 32) (give u Invalidate (a / 32) false (ready d m c)))
+    ∙ ap (λ (c′ : List ℕ). machine (claimedAtOnce u (a / 32) d) m c′ (order u Invalidate (a / 32) false ∷ [])) (stored-in u a v d m c c q refl))
 
-pub store-missed : (u a v : ℕ) (d : Directory) (m c : List ℕ) → modified (slotAt d (place u (a / 32))) (a / 32) ≡ false
+pub store-missed : (u a v : ℕ) (d : Directory) (m c : List ℕ) → Known d m c u (isAddress a) → modified (slotAt d (place u (a / 32))) (a / 32) ≡ false
     → holds (slotAt d (place u (a / 32))) (a / 32) ≡ false
     → let b = a / 32 in let n = place u b in let x = slotAt d n in let o = ownerOf d b in
     store u a v (ready d m c)
-    ≡ machine (claimedAtOnce u b (fetchedDirectory n b o d)) (fetchedMemory n b x o m c) (putWord (fetchedCache n b x o m c) (cachePlace u a) v) (fetchOrders u ModifiedRead b x o)
+    ≡ machine (claimedAtOnce u b (fetchedDirectory n b o d)) (fetchedMemory n b x o m c) (wordPut (fetchedCache n b x o m c) (cachePlace u a) v) (fetchOrders u ModifiedRead b x o)
 unfolding store own write ready
-store-missed u a v d m c g h =
+store-missed u a v d m c q g h =
+    let b : ℕ = a / 32 in
+    let n : ℕ = place u b in
+    let x : Slot = slotAt d n in
+    let o : ℕ = ownerOf d b in
+    let c₁ : List ℕ = fetchedCache n b x o m c in
     rw (g, h)
-    (ap (write u a v) (claim-is u (a / 32) (fetch u ModifiedRead (a / 32) (ready d m c)) ∙ ap (λ (w : Run). machine (claimedAtOnce u (a / 32) (w .directory)) (w .memory) (w .cache) (w .orders)) (fetch-is u ModifiedRead (a / 32) d m c h)))
+    (ap (write u a v) (claim-is u b (fetch u ModifiedRead b (ready d m c)) ∙ ap (λ (w : Run). machine (claimedAtOnce u b (w .directory)) (w .memory) (w .cache) (w .orders)) (fetch-is u ModifiedRead b d m c (isAddress a) q (block-lt a (q .target)) h))
+    ∙ ap (λ (c′ : List ℕ). machine (claimedAtOnce u b (fetchedDirectory n b o d)) (fetchedMemory n b x o m c) c′ (fetchOrders u ModifiedRead b x o))
+    (stored-in u a v d m c c₁ q (length-fetched n b x o m c .1)))
 
 -- ---- flushes
-pub flush-held : (u b : ℕ) (d : Directory) (m c : List ℕ) → holds (slotAt d (place u b)) b ≡ true
+pub flush-held : (u b : ℕ) (d : Directory) (m c : List ℕ) (good : Bool) → Known d m c u good → holds (slotAt d (place u b)) b ≡ true
     → let n = place u b in let x = slotAt d n in
     flush u b (ready d m c) ≡ machine (setSlot d n Invalid) (evictedMemory n x m c) c (evictionOrders u x)
 unfolding flush ready emptiedDirectory
-flush-held u b d m c h =
+flush-held u b d m c good q h =
     let n : ℕ = place u b in
     let x : Slot = slotAt d n in
-    rw h (empty-is u n d m c ∙ ap (λ (e : Directory). machine e (evictedMemory n x m c) c (evictionOrders u x)) (valid x h))
+    rw h (empty-is u n d m c (q .sizes) (place-lt u b (q .unit)) (q .block b) ∙ ap (λ (e : Directory). machine e (evictedMemory n x m c) c (evictionOrders u x)) (valid x h))
   where
     valid : (x : Slot) → holds x b ≡ true → emptiedDirectory (place u b) x d ≡ setSlot d (place u b) Invalid
     valid Invalid g = absurd (false≢true (sym (holds-invalid b) ∙ g))

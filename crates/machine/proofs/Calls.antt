@@ -9,7 +9,7 @@ use Rattle.coherence.specs.declared.Answer.{Answer}
 use Rattle.coherence.specs.declared.Call.{Call}
 use Rattle.coherence.specs.Access.{Run, ready}
 use Rattle.coherence.specs.Calls.{refusal, act, loaded, after, valueOf, packed, answer, memoryAfter, cacheAfter}
-use Rattle.machine.specs.Access.{answerOf, acted, Accepts}
+use Rattle.orders.specs.Orders.{answerOf}
 
 after-accepted : (d : Directory) (m k : List ℕ) (c : Call) → refusal d m k c ≡ 0 → after d m k c ≡ act c (ready d m k)
 unfolding after
@@ -28,29 +28,17 @@ unfolding valueOf
 value-refused d m k c e = rw (ne-eqb _ _ e)
 
 -- an accepted call, whose access comes to w
-pub comes-to : (c : Call) {w : Run} {d : Directory} {m k : List ℕ} {o : Orders} {e : Directory} {m′ k′ : List ℕ} {v : ℕ} {r : Answer}
-    → act c (ready d m k) ≡ w → r ≡ answerOf 0 v o e
+pub comes-to : (d : Directory) (m k : List ℕ) (c : Call) {w : Run} {r : Answer} {v : ℕ} {o : Orders} {e : Directory} {m′ k′ : List ℕ}
+    → refusal d m k c ≡ 0 → act c (ready d m k) ≡ w → r ≡ answerOf 0 v o e
     → v ≡ loaded c w → o ≡ packed (w .orders) → e ≡ w .directory → m′ ≡ w .memory → k′ ≡ w .cache
-    → Accepts c d m k r m′ k′
-unfolding acted answerOf
-comes-to c does r v o e p q =
-    let t = sym does in
-    let v₁ = v ∙ ap (loaded c) t in
-    record {
-      answer = r ∙ (λ i. record { refusal = 0; value = v₁ i; orders = (o ∙ ap (λ (w : Run). packed (w .orders)) t) i; directory = (e ∙ ap (λ (w : Run). w .directory) t) i });
-      memory = p ∙ ap (λ (w : Run). w .memory) t;
-      cache = q ∙ ap (λ (w : Run). w .cache) t;
-    }
-
-pub accepts : (d : Directory) (m k : List ℕ) (c : Call) {m′ k′ : List ℕ} {r : Answer} → refusal d m k c ≡ 0 → Accepts c d m k r m′ k′
     → (r ≡ answer d m k c) × (m′ ≡ memoryAfter d m k c) × (k′ ≡ cacheAfter d m k c)
-unfolding acted answerOf answer memoryAfter cacheAfter
-accepts d m k c z h =
-    let t : act c (ready d m k) ≡ after d m k c = sym (after-accepted d m k c z) in
-    let v = ap (loaded c) t ∙ sym (value-accepted d m k c z) in (
-      h .answer ∙ (λ i. record { refusal = sym z i; value = v i; orders = packed (t i .orders); directory = t i .directory }),
-      h .memory ∙ ap (λ (w : Run). w .memory) t,
-      h .cache ∙ ap (λ (w : Run). w .cache) t,
+unfolding answerOf answer memoryAfter cacheAfter
+comes-to d m k c {w} z does r v o e p q =
+    let t : w ≡ after d m k c = sym (after-accepted d m k c z ∙ does) in
+    let v₁ = v ∙ ap (loaded c) t ∙ sym (value-accepted d m k c z) in (
+      r ∙ (λ i. record { refusal = sym z i; value = v₁ i; orders = (o ∙ ap (λ (w : Run). packed (w .orders)) t) i; directory = (e ∙ ap (λ (w : Run). w .directory) t) i }),
+      p ∙ ap (λ (w : Run). w .memory) t,
+      q ∙ ap (λ (w : Run). w .cache) t,
     )
 
 -- a refused call

@@ -2,8 +2,9 @@
 use mathlib.Core.Path.{_≡_, refl}
 use mathlib.Core.Bool.{Bool, true, false, cond}
 use mathlib.Core.List.{List}
-use Prim.Native.Nat.{ℕ, _%_, _<_, _≤_}
+use Prim.Native.Nat.{ℕ, _+_, _-_, _*_, _%_, _<_, _≤_}
 use native.Mathlib.Omega.{arith}
+use lib.ListN.{length}
 use lib.Dec.{eqb, leb}
 use borrow.Author.Tests.{eqb-true, leb-true}
 use Rattle.coherence.specs.declared.Directory.{Directory}
@@ -15,7 +16,11 @@ use Rattle.coherence.proofs.Below.{both}
 use Rattle.coherence.proofs.RefusalLaws.{call-tests, peek-tests, sized-say}
 use Rattle.coherence.proofs.SlotLaws.{place-lt, shared-holds, modified-holds}
 use Rattle.coherence.proofs.Rules.{sound-placed}
-use Rattle.machine.specs.Access.{Sized}
+
+-- both stores have their size
+pub record Sized (m k : List ℕ) : Type 0 where
+  pub memory : length m ≡ 2048
+  pub cache : length k ≡ 2048
 
 all-pass : (a b c d : Bool) → _≡_ {A = ℕ} (cond a (cond b (cond c (cond d 0 4) 3) 2) 1) 0
     → (a ≡ true) × (b ≡ true) × (c ≡ true) × (d ≡ true)
@@ -72,3 +77,7 @@ pub peek-known : (d : Directory) (m k : List ℕ) (b : ℕ) → peekRefusal d m 
 peek-known d m k b e =
     let p = all-pass (sized m k) (sound d) true (isBlock b) (rw (peek-tests d m k b) at e) in
     (sizes-of m k (p .0), block-of b (p .3))
+
+-- as long as a block
+pub part-is : (n : ℕ) → 32 * n + 32 - 32 * n ≡ 32
+part-is n = omega arith

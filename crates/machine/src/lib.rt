@@ -8,31 +8,40 @@ ghost use Rattle.coherence.specs.declared.Call.the-variants.{Load, Store, Flush
 ghost use Rattle.coherence.specs.Calls.{answer, memoryAfter, cacheAfter, startAnswer, cacheStarted};
 ghost use Rattle.coherence.specs.Refusal.{peekRefusal};
 ghost use Rattle.coherence.specs.Peek.{peeked, peekFromCache, peekOffset};
-
-mod access;
-mod block;
-mod directory;
-
-use access::flush_block;
-use access::load_word;
-use access::refused;
-use access::store_word;
-use block::block_of;
-use block::clear;
+use bytes::clear;
+use bytes::evict_bytes;
+use bytes::fetch_bytes;
+use bytes::put_word;
+use bytes::word_at;
 use coherence::Answer;
 use coherence::Call;
 use coherence::Directory;
+use coherence::Slot;
 use coherence::Start;
-use directory::cold_directory;
-use directory::owner;
-use directory::place_of;
 use order::BAD_ADDRESS;
 use order::BROKEN_DIRECTORY;
+use order::Command;
 use order::WRONG_SIZE;
+use orders::accepted;
+use orders::eviction_orders;
+use orders::fetch_orders;
+use orders::no_orders;
+use orders::one_order;
+use orders::refused;
 use refusal::is_address;
 use refusal::is_sized;
 use refusal::is_sound;
 use refusal::refusal_of;
+use slots::cache_place;
+use slots::claimed;
+use slots::cold_directory;
+use slots::fetched;
+use slots::has_modified;
+use slots::holds_block;
+use slots::owner;
+use slots::place_of;
+use slots::set_slot;
+use slots::slot_at;
 
 // All slots invalid, and the cache store all zeros. Refused, it leaves the cache store as it was.
 pub fn cold_start(memory: &[u8], cache: &mut [u8]) -> Start
@@ -64,10 +73,24 @@ pub fn load(
     ensures { λ r. ⌜ (r ≡ answer directory (now (memory .entry)) (now (cache .entry)) (Load unit address)) × (now (memory .exit) ≡ memoryAfter directory (now (memory .entry)) (now (cache .entry)) (Load unit address)) × (now (cache .exit) ≡ cacheAfter directory (now (memory .entry)) (now (cache .entry)) (Load unit address)) ⌝ }
 {
     let refusal = refusal_of(directory, memory, cache, unit, is_address(address));
-    if refusal == 0 {
-        load_word(directory, memory, cache, unit, address)
+    if refusal != 0 {
+        return refused(refusal, directory);
+    }
+    let block = (address / 32) as u8;
+    let n = place_of(unit, block);
+    let slot = slot_at(directory, n);
+    let at = cache_place(unit, address);
+    if holds_block(slot, block) {
+        let value = word_at(cache, at);
+        let orders = no_orders();
+        accepted(value, orders, directory)
     } else {
-        refused(refusal, directory)
+        let holder = owner(directory, block);
+        fetch_bytes(slot, holder, memory, cache, n, block);
+        let value = word_at(cache, at);
+        let orders = fetch_orders(slot, holder, unit, Command::Read, block);
+        let left = fetched(directory, n, holder, block);
+        accepted(value, orders, left)
     }
 }
 
@@ -83,10 +106,30 @@ pub fn store(
     ensures { λ r. ⌜ (r ≡ answer directory (now (memory .entry)) (now (cache .entry)) (Store unit address value)) × (now (memory .exit) ≡ memoryAfter directory (now (memory .entry)) (now (cache .entry)) (Store unit address value)) × (now (cache .exit) ≡ cacheAfter directory (now (memory .entry)) (now (cache .entry)) (Store unit address value)) ⌝ }
 {
     let refusal = refusal_of(directory, memory, cache, unit, is_address(address));
-    if refusal == 0 {
-        store_word(directory, memory, cache, unit, address, value)
+    if refusal != 0 {
+        return refused(refusal, directory);
+    }
+    let block = (address / 32) as u8;
+    let n = place_of(unit, block);
+    let slot = slot_at(directory, n);
+    let at = cache_place(unit, address);
+    if has_modified(slot, block) {
+        put_word(cache, at, value);
+        let orders = no_orders();
+        return accepted(0, orders, directory);
+    }
+    if holds_block(slot, block) {
+        put_word(cache, at, value);
+        let orders = one_order(unit, Command::Invalidate, block);
+        let left = claimed(directory, unit, block);
+        accepted(0, orders, left)
     } else {
-        refused(refusal, directory)
+        let holder = owner(directory, block);
+        fetch_bytes(slot, holder, memory, cache, n, block);
+        put_word(cache, at, value);
+        let orders = fetch_orders(slot, holder, unit, Command::ModifiedRead, block);
+        let left = claimed(fetched(directory, n, holder, block), unit, block);
+        accepted(0, orders, left)
     }
 }
 
@@ -95,10 +138,19 @@ pub fn flush(directory: Directory, memory: &mut [u8], cache: &[u8], unit: u8, bl
     ensures { λ r. ⌜ (r ≡ answer directory (now (memory .entry)) (now (cache .entry)) (Flush unit block)) × (now (memory .exit) ≡ memoryAfter directory (now (memory .entry)) (now (cache .entry)) (Flush unit block)) × (now (cache .entry) ≡ cacheAfter directory (now (memory .entry)) (now (cache .entry)) (Flush unit block)) ⌝ }
 {
     let refusal = refusal_of(directory, memory, cache, unit, block <= 63);
-    if refusal == 0 {
-        flush_block(directory, memory, cache, unit, block)
+    if refusal != 0 {
+        return refused(refusal, directory);
+    }
+    let n = place_of(unit, block);
+    let slot = slot_at(directory, n);
+    if holds_block(slot, block) {
+        evict_bytes(slot, memory, cache, n);
+        let orders = eviction_orders(slot, unit);
+        let left = set_slot(directory, n, Slot::Invalid);
+        accepted(0, orders, left)
     } else {
-        refused(refusal, directory)
+        let orders = no_orders();
+        accepted(0, orders, directory)
     }
 }
 
@@ -139,9 +191,10 @@ pub fn peek<'a>(directory: Directory, memory: &'a [u8], cache: &'a [u8], block: 
     }
     let unit = owner(directory, block);
     if unit < 4 {
-        let n = place_of(unit, block);
-        block_of(cache, n)
+        let at = 32 * place_of(unit, block);
+        &cache[at..at + 32]
     } else {
-        block_of(memory, block as usize)
+        let at = 32 * (block as usize);
+        &memory[at..at + 32]
     }
 }

@@ -1,14 +1,15 @@
 -- The receiver's answer to an operation that is accepted, and to one that is not.
-use Prim.Native.Nat.{ℕ, _+_, _≤_}
+use Prim.Native.Nat.{ℕ, _+_, _<_, _≤_}
+use native.Mathlib.Decide.{decLt}
 use native.Mathlib.Omega.{arith}
 use mathlib.Core.Path.{_≡_, refl, sym, ap, _∙_}
 use mathlib.Core.Logic.{_≢_, _⊎_, inl, inr, ⊎-elim}
-use mathlib.Core.Bool.{Bool, true, false, not, cond, _&&_, and-eq-true-iff, false≢true}
+use mathlib.Core.Bool.{Bool, true, false, not, cond, _&&_, and-eq-true-iff, and-false, false≢true}
 use mathlib.Core.List.{List}
 use lib.Dec.{eqb, leb}
 use lib.ListN.{length}
 use lib.Seq.{sets}
-use borrow.Author.Tests.{eq-eqb, ne-eqb, le-leb, eqb-true, eqb-false, leb-true, not-true}
+use borrow.Author.Tests.{eq-eqb, ne-eqb, le-leb, eqb-true, eqb-false, leb-true, lt-leb, not-true}
 use Rattle.message.specs.declared.operation.Sequence.{Sequence}
 use Rattle.message.specs.declared.operation.Sequence.the-variants.{Single, First, Middle, Last}
 use Rattle.message.specs.declared.receiver.Receiver.{Receiver}
@@ -16,7 +17,7 @@ use Rattle.message.specs.declared.receiver.Receiver.the-variants.{Idle, 
 use Rattle.message.specs.declared.receiver.Completion.the-variants.{Incomplete, Complete}
 use Rattle.message.specs.declared.receiver.Receipt.{Receipt}
 use Rattle.message.specs.Operation.{Operation, isSource, starts, ends}
-use Rattle.message.specs.Receiver.{stateAllowed, inRange, inTurn, isExpected, startOf, receiveRefusal, accepts, Follows, Acceptable, AcceptsExactly, refused, taken, receipt, storeAfter}
+use Rattle.message.specs.Receiver.{stateAllowed, inRange, inTurn, isExpected, startOf, receiveRefusal, accepts, Follows, Acceptable, AcceptsExactly, refused, taken, receipt, storeAfter, BadPending, RefusesState, RefusedKeeps}
 use Rattle.message.proofs.ReceiverTests.{receive-tests, accepted-tests}
 
 -- ---- which operations are accepted
@@ -179,3 +180,64 @@ other-refused s a n st o size state range source =
     turn : (t : Bool) → _≡_ {A = ℕ} (cond (not t) (cond false (cond (leb (startOf (Pending s a n) + length (o .bytes)) 4096) 0 9) 11) 12) (cond t 12 11)
     turn true = refl
     turn false = refl
+
+-- ---- refused operations, in the paper's own numbers
+
+pub refused-keeps : (r : Receiver) (st : List ℕ) (o : Operation) → RefusedKeeps r st o
+unfolding refused
+refused-keeps r st o = record { answer = refused-answer r st o; kept = refused-store r st o }
+
+bad-state : (r : Receiver) → BadPending r → stateAllowed r ≡ false
+unfolding BadPending stateAllowed isSource
+bad-state Idle h = absurd h
+bad-state (Pending s a n) h =
+    ⊎-elim (λ (e : 7 < s). rw (lt-leb s 7 e))
+    (⊎-elim (λ (e : 255 < a). rw (lt-leb a 255 e, and-false (leb s 7)))
+    (⊎-elim (λ (e : n ≡ 0). rw (lt-leb 1 n (omega arith), and-false (leb s 7 && leb a 255)))
+    (λ (e : 4096 < n). rw (lt-leb n 4096 e, and-false (leb 1 n), and-false (leb s 7 && leb a 255)))))
+    h
+
+over : (n k : ℕ) → leb n k ≡ false → k < n
+over n k e = on (decLt k n)
+  where
+    on : Dec (k < n) → k < n
+    on (yes l) = l
+    on (no l) = absurd (false≢true (sym e ∙ le-leb n k (omega arith)))
+
+state-bad : (r : Receiver) → stateAllowed r ≡ false → BadPending r
+unfolding BadPending stateAllowed isSource
+state-bad Idle e = false≢true (sym e)
+state-bad (Pending s a n) e = on (leb s 7) (leb a 255) (leb 1 n) (leb n 4096) refl refl refl refl e
+  where
+    on : (t u v w : Bool) → leb s 7 ≡ t → leb a 255 ≡ u → leb 1 n ≡ v → leb n 4096 ≡ w → ((t && u) && (v && w)) ≡ false →
+        (7 < s) ⊎ ((255 < a) ⊎ ((n ≡ 0) ⊎ (4096 < n)))
+    on false u v w p q x y e = inl (over s 7 p)
+    on true false v w p q x y e = inr (inl (over a 255 q))
+    on true true false w p q x y e = let z : n < 1 = over 1 n x in inr (inr (inl (omega arith)))
+    on true true true false p q x y e = inr (inr (inr (over n 4096 y)))
+    on true true true true p q x y e = absurd (false≢true (sym e))
+
+-- the number is 10 only where the state is not allowed: no later test gives it
+only-state : (t u v w x y : Bool) → _≡_ {A = ℕ} (cond t (cond u (cond v (cond w (cond x (cond y 0 9) 11) 12) 8) 10) 1) 10 → (t ≡ true) × (u ≡ false)
+only-state false u v w x y e = absurd (omega arith)
+only-state true false v w x y e = (refl, refl)
+only-state true true false w x y e = absurd (omega arith)
+only-state true true true false x y e = absurd (omega arith)
+only-state true true true true false y e = absurd (omega arith)
+only-state true true true true true false e = absurd (omega arith)
+only-state true true true true true true e = absurd (omega arith)
+
+pub refuses-state : (r : Receiver) (st : List ℕ) (o : Operation) → RefusesState r st o
+refuses-state r st o = record {
+  all = λ size h. answer-refusal r st o ∙ receive-tests r st o ∙ rw (eq-eqb (length st) 4096 size, bad-state r h);
+  only = λ e.
+      let p : (eqb (length st) 4096 ≡ true) × (stateAllowed r ≡ false) = only-state
+      (eqb (length st) 4096)
+      (stateAllowed r)
+      (inRange (o .sender) (o .aid) (length (o .bytes)))
+      (inTurn r (o .sequence))
+      (isExpected r (o .sender) (o .aid))
+      (leb (startOf r + length (o .bytes)) 4096)
+      (sym (receive-tests r st o) ∙ sym (answer-refusal r st o) ∙ e) in
+      (eqb-true (length st) 4096 (p .0), state-bad r (p .1));
+}

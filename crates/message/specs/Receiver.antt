@@ -1,7 +1,7 @@
 -- The receiver (document 02, T-01; ISO/IEC 14576, Table 6): what it refuses, what it answers, and what it leaves in the store.
-use Prim.Native.Nat.{ℕ, _+_, _≤_}
+use Prim.Native.Nat.{ℕ, _+_, _<_, _≤_}
 use mathlib.Core.Path.{_≡_}
-use mathlib.Core.Logic.{_⊎_}
+use mathlib.Core.Logic.{_⊎_, _≢_}
 use mathlib.Core.Bool.{Bool, true, not, cond, _&&_}
 use mathlib.Core.List.{List, [], _∷_}
 use lib.Dec.{eqb, leb}
@@ -116,3 +116,20 @@ storeAfter r store o = cond (accepts r store o) (sets store (startOf r) (o .byte
 unfoldable pub completionTold : Completion → List ℕ
 completionTold Incomplete = []
 completionTold (Complete s a n) = s ∷ a ∷ n ∷ []
+
+-- ---- refused operations, in the paper's own numbers
+
+-- 10: "a pending state with a sender above 7, an AID above 255 or a count outside 1 to 4,096"; an idle one has none of these
+unfoldable pub BadPending : Receiver → Type 0
+BadPending Idle = ⊥
+BadPending (Pending s a n) = (7 < s) ⊎ ((255 < a) ⊎ ((n ≡ 0) ⊎ (4096 < n)))
+
+-- such a state, in a store that isn't refused with 1, is refused with 10 whatever the operation, and nothing else is
+pub record RefusesState (r : Receiver) (store : List ℕ) (o : Operation) : Type 0 where
+  pub all : length store ≡ 4096 → BadPending r → receipt r store o .refusal ≡ 10
+  pub only : receipt r store o .refusal ≡ 10 → (length store ≡ 4096) × BadPending r
+
+-- "A refusal keeps the receiver's state and store", and completes nothing: the whole answer
+pub record RefusedKeeps (r : Receiver) (store : List ℕ) (o : Operation) : Type 0 where
+  pub answer : receiveRefusal r store o ≢ 0 → receipt r store o ≡ record { refusal = receiveRefusal r store o; receiver = r; completion = Incomplete }
+  pub kept : receiveRefusal r store o ≢ 0 → storeAfter r store o ≡ store

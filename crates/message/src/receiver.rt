@@ -53,7 +53,7 @@ pub fn receive(
         Receipt {
             refusal,
             receiver,
-            completion: Completion::Incomplete,
+            completion: Completion::Incomplete, // a refused operation completes nothing
         }
     }
 }

@@ -1,6 +1,8 @@
 -- The commands of an order by their numbers (document 01, "The tape": 0 read, 1 modified read, 2 invalidate, 3 copyback).
 use Prim.Native.Nat.{ℕ}
+use mathlib.Core.Path.{_≡_}
 use mathlib.Core.Bool.{cond}
+use mathlib.Core.List.{[], _∷_, map}
 use lib.Dec.{eqb}
 use Rattle.order.specs.declared.Command.{Command}
 use Rattle.order.specs.declared.Command.the-variants.{Read, ModifiedRead, Invalidate, Copyback}
@@ -20,3 +22,8 @@ commandOf n =
     (cond (eqb n 1) (Known ModifiedRead)
     (cond (eqb n 2) (Known Invalidate)
     (cond (eqb n 3) (Known Copyback) Unknown)))
+
+-- "Commands: 0 read, 1 modified read, 2 invalidate, 3 copyback", both ways
+pub record CommandNumbers : Type 0 where
+  pub numbers : map commandNumber (Read ∷ ModifiedRead ∷ Invalidate ∷ Copyback ∷ []) ≡ 0 ∷ 1 ∷ 2 ∷ 3 ∷ []
+  pub commands : map commandOf (0 ∷ 1 ∷ 2 ∷ 3 ∷ 4 ∷ []) ≡ Known Read ∷ Known ModifiedRead ∷ Known Invalidate ∷ Known Copyback ∷ Unknown ∷ []

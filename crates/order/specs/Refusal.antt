@@ -1,4 +1,4 @@
--- The numbers of refusal and their names (document 01, "Numbers of refusal"; 11 and 12 from document 02, T-01, and 17 from T-14), and tests in their
+-- The numbers of refusal and their names (document 01, "Numbers of refusal"; 11 and 12 from document 02, T-01, 17 from T-14 and 18 from T-12), and tests in their
 -- order. 0 says that nothing was refused.
 use Prim.Native.Nat.{ℕ}
 use mathlib.Core.Bool.{Bool, cond}
@@ -46,6 +46,9 @@ outOfTurn = 12
 
 abbrev pub halvesDiffer : ℕ
 halvesDiffer = 17
+
+abbrev pub unreadable : ℕ
+unreadable = 18
 
 -- a test, and the number that is given where it does not pass
 pub record Test : Type 0 where

@@ -1,6 +1,7 @@
 // Bus orders and the numbers of refusal: what the tape and the machine both speak of.
 ghost use mathlib.Core.Path.{_≡_};
 ghost use Rattle.order.specs.Command.{commandNumber, commandOf};
+ghost use Rattle.order.specs.Flag.{flag};
 
 // Document 01, "Numbers of refusal".
 pub const WRONG_SIZE: u8 = 1;
@@ -32,6 +33,9 @@ pub const OUT_OF_TURN: u8 = 12;
 
 // Document 02, T-14: an address cycle whose halves differ.
 pub const HALVES_DIFFER: u8 = 17;
+
+// Document 02, T-12: what can't be opened or read.
+pub const UNREADABLE: u8 = 18;
 
 // What an order asks of the bus.
 pub enum Command {
@@ -76,4 +80,10 @@ pub fn command_of(number: u64) -> CommandFound
         3 => CommandFound::Known(Command::Copyback),
         _ => CommandFound::Unknown,
     }
+}
+
+pub fn flag_number(yes: bool) -> u64
+    ensures { λ r. ⌜ r ≡ flag yes ⌝ }
+{
+    if yes { 1 } else { 0 }
 }

@@ -17,7 +17,8 @@ use Rattle.coherence.specs.Slots.{emptyEntry, slotAt, slotOf, blockOf, holds, s
 use Rattle.coherence.proofs.Cases.{four, eq-or-ne, lt-or-le, true-or-false}
 use Rattle.coherence.proofs.SlotLaws.{holds-is, shared-holds, modified-holds}
 use Rattle.coherence.proofs.Rules.{tests-rules}
-use Rattle.refusal.specs.Soundness.{rankOf, blockOr, misplacedIn, conflictOf, placeFaults, pairFaults, faultsOf, sumBelow}
+use Rattle.refusal.specs.Soundness.{rankOf, blockOr, misplacedIn, conflictOf, placeFaults, pairFaults, faultsOf}
+use Rattle.numeric.specs.Bits.{sumBelow}
 
 -- the faults of the four units' slots s
 unfoldable pub faultsAt : List Entry → ℕ → ℕ

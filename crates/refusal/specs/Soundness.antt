@@ -1,6 +1,6 @@
 -- How the code tests the directory: the faults of the four units' slots of one slot number, and their sum. The rules themselves are `coherence`'s; `Faults`
 -- proves that there is no fault exactly where they hold.
-use Prim.Native.Nat.{ℕ, zero, suc, _+_, _%_}
+use Prim.Native.Nat.{ℕ, _+_, _%_}
 use mathlib.Core.Bool.{cond}
 use lib.Dec.{ltb, eqb}
 use Rattle.coherence.specs.declared.Slot.{Slot}
@@ -38,7 +38,3 @@ unfoldable pub faultsOf : ℕ → Slot → Slot → Slot → Slot → ℕ
 faultsOf s w x y z =
     placeFaults s w + placeFaults s x + placeFaults s y + placeFaults s z
     + pairFaults s w x + pairFaults s w y + pairFaults s w z + pairFaults s x y + pairFaults s x z + pairFaults s y z
-
-unfoldable pub sumBelow : ℕ → (ℕ → ℕ) → ℕ
-sumBelow zero f = 0
-sumBelow (suc n) f = sumBelow n f + f n

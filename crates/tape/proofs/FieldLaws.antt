@@ -9,11 +9,11 @@ use borrow.Author.Tests.{leb-true}
 use Rattle.order.specs.declared.Command.{Command}
 use Rattle.order.specs.declared.Command.the-variants as command
 use Rattle.order.specs.Refusal.{fieldRange}
-use Rattle.tape.specs.declared.number.NumberRead.{NumberRead}
-use Rattle.tape.specs.declared.number.NumberRead.the-variants.{Number, Refused}
+use Rattle.number.specs.declared.NumberRead.{NumberRead}
+use Rattle.number.specs.declared.NumberRead.the-variants.{Number, Refused}
 use Rattle.tape.specs.declared.field.Rule.{Rule}
 use Rattle.tape.specs.declared.field.Rule.the-variants.{Unit, Address, Word, Block, Retried, From, To, Byte, Flag, Bct}
-use Rattle.tape.specs.Number.{numberAt}
+use Rattle.number.specs.Number.{numberAt}
 use Rattle.tape.specs.Field.{retriedMost, allowed, ruled, fieldAt}
 
 pub both-true : (a b : Bool) → a && b ≡ true → (a ≡ true) × (b ≡ true)

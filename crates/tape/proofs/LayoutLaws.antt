@@ -15,18 +15,20 @@ use Rattle.order.specs.declared.CommandFound.the-variants.{Known, Unknown}
 use Rattle.order.specs.Command.{commandNumber, commandOf}
 use Rattle.order.specs.Refusal.{unknownKind}
 use Rattle.order.proofs.CommandLaws.{command-of-number}
-use Rattle.tape.specs.declared.number.NumberRead.{NumberRead}
-use Rattle.tape.specs.declared.number.NumberRead.the-variants.{Number, Refused}
+use Rattle.number.specs.declared.NumberRead.{NumberRead}
+use Rattle.number.specs.declared.NumberRead.the-variants.{Number, Refused}
 use Rattle.tape.specs.declared.field.Rule.the-variants.{Retried, Flag}
 use Rattle.tape.specs.declared.record.Record.{Record}
 use Rattle.tape.specs.declared.record.Record.the-variants as rec
 use Rattle.tape.specs.declared.record.RecordRead.{RecordRead}
 use Rattle.tape.specs.declared.record.RecordRead.the-variants as out
-use Rattle.tape.specs.Number.{numberAt}
+use Rattle.number.specs.Number.{numberAt}
 use Rattle.tape.specs.Field.{allowed, fieldAt}
-use Rattle.tape.specs.Record.{Layout, field, command, end, flag, load, store, flush, order, answer, register, loaded, layoutOf, andThen, andCommand, fieldsAt, kindAt, recordAt, kindOf, fieldsOf, fits, fitsCommand}
+use Rattle.order.specs.Flag.{flag}
+use Rattle.tape.specs.Record.{Layout, field, command, end, load, store, flush, order, answer, register, loaded, layoutOf, andThen, andCommand, fieldsAt, kindAt, recordAt, kindOf, fieldsOf, fits, fitsCommand}
+use Rattle.tape.specs.Refused.{Reads}
 use Rattle.tape.specs.Write.{valid}
-use Rattle.tape.proofs.NumberLaws.{limit, limit-word, number-moves}
+use Rattle.number.proofs.NumberLaws.{limit, limit-word, number-moves}
 use Rattle.tape.proofs.FieldLaws.{both-true, field-number, field-allowed, allowed-most, allowed-word}
 use Rattle.tape.proofs.ReadLaws.{then, of-kind}
 
@@ -49,11 +51,6 @@ command-small command-names.Read = omega arith
 command-small command-names.ModifiedRead = omega arith
 command-small command-names.Invalidate = omega arith
 command-small command-names.Copyback = omega arith
-
--- the numbers ns stand on the tape from at up to q
-abbrev pub Reads : List ℕ → ℕ → List ℕ → ℕ → Type 0
-Reads tape at [] q = at ≡ q
-Reads tape at (n ∷ ns) q = (p : ℕ) × (numberAt tape at ≡ Number n p) × Reads tape p ns q
 
 -- the numbers ns, put into a layout's fields, make the record r
 abbrev Makes : Layout → List ℕ → Record → Type 0

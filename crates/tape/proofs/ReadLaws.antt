@@ -8,13 +8,13 @@ use Rattle.order.specs.declared.CommandFound.{CommandFound}
 use Rattle.order.specs.declared.CommandFound.the-variants.{Known, Unknown}
 use Rattle.order.specs.Command.{commandOf}
 use Rattle.order.specs.Refusal.{fieldRange, unknownKind}
-use Rattle.tape.specs.declared.number.NumberRead.{NumberRead}
-use Rattle.tape.specs.declared.number.NumberRead.the-variants.{Number, Refused}
+use Rattle.number.specs.declared.NumberRead.{NumberRead}
+use Rattle.number.specs.declared.NumberRead.the-variants.{Number, Refused}
 use Rattle.tape.specs.declared.field.Rule.{Rule}
 use Rattle.tape.specs.declared.record.Record.{Record}
 use Rattle.tape.specs.declared.record.RecordRead.{RecordRead}
 use Rattle.tape.specs.declared.record.RecordRead.the-variants as out
-use Rattle.tape.specs.Number.{numberAt}
+use Rattle.number.specs.Number.{numberAt}
 use Rattle.tape.specs.Field.{fieldAt}
 use Rattle.tape.specs.Record.{Layout, field, command, end, andThen, andCommand, fieldsAt, layoutOf, kindAt}
 

@@ -13,14 +13,15 @@ use borrow.Author.Tests.{le-leb, lt-leb, eq-eqb}
 use Rattle.order.specs.Refusal.{fieldRange, noRoom}
 use Rattle.tape.specs.declared.record.Record.{Record}
 use Rattle.tape.specs.declared.record.RecordRead.the-variants as read
-use Rattle.tape.specs.declared.number.NumberRead.the-variants.{Refused}
+use Rattle.number.specs.declared.NumberRead.the-variants.{Refused}
 use Rattle.tape.specs.declared.write.Written.the-variants as wrote
-use Rattle.tape.specs.Number.{spell, spellAll, Bytes}
+use Rattle.number.specs.Number.{spell, spellAll, filled, Bytes}
 use Rattle.tape.specs.Record.{kindOf, fieldsOf, recordAt}
+use Rattle.tape.specs.Refused.{Reads}
 use Rattle.tape.specs.Write.{valid, bytesOf, writtenOf, spaceAfter}
 use Rattle.tape.specs.RoundTrip.{ReadsBack, WritesBack, MovesOn, WrittenAs, ReadsAs, TapeReadsBack, TapeWritesBack}
-use Rattle.tape.proofs.NumberLaws.{Stands, number-of-spelled, spelled-of-number, number-moves}
-use Rattle.tape.proofs.LayoutLaws.{Reads, Small, record-taken, record-given, finished-at-end, valid-small}
+use Rattle.number.proofs.NumberLaws.{Stands, number-of-spelled, spelled-of-number, number-moves}
+use Rattle.tape.proofs.LayoutLaws.{Small, record-taken, record-given, finished-at-end, valid-small}
 
 -- bytes that stand on the tape, cut and joined
 stands-cut : (s t tape : List ℕ) (p : ℕ) → Stands tape (s ++ t) p → Stands tape s p × Stands tape t (p + length s)
@@ -83,7 +84,7 @@ bytes-of-read tape at r q all e =
 
 -- what writing answers and leaves where it accepts, and where it has no room
 pub wrote-bytes : (r : Record) (space : List ℕ) (n : ℕ) → writtenOf r (length space) ≡ wrote.Bytes n → (valid r ≡ true) × (n ≡ length (bytesOf r)) × (take n (spaceAfter r space) ≡ bytesOf r)
-unfolding writtenOf spaceAfter
+unfolding writtenOf spaceAfter filled
 wrote-bytes r space n e = go (valid r) (leb (length (bytesOf r)) (length space)) refl refl e
   where
     go : (t u : Bool) → valid r ≡ t → leb (length (bytesOf r)) (length space) ≡ u → cond t (cond u (wrote.Bytes (length (bytesOf r))) (wrote.Refused noRoom)) (wrote.Refused fieldRange) ≡ wrote.Bytes n
@@ -96,7 +97,7 @@ wrote-bytes r space n e = go (valid r) (leb (length (bytesOf r)) (length space))
 
 module _ (r : Record) (space : List ℕ) (v : valid r ≡ true) where
   pub writes : length (bytesOf r) ≤ length space → (writtenOf r (length space) ≡ wrote.Bytes (length (bytesOf r))) × (take (length (bytesOf r)) (spaceAfter r space) ≡ bytesOf r)
-  unfolding writtenOf spaceAfter
+  unfolding writtenOf spaceAfter filled
   writes h = rw (v, le-leb (length (bytesOf r)) (length space) h) (refl, take-append-seam (bytesOf r) (drop (length (bytesOf r)) space))
 
   pub no-room : length space < length (bytesOf r) → writtenOf r (length space) ≡ wrote.Refused noRoom

@@ -1,12 +1,10 @@
 -- Laws of writing: which records are valid, kind by kind, and the answer and the space by what the tests found.
 use Prim.Native.Nat.{ℕ, _≤_, _<_}
-use native.Mathlib.Nat.{zero-add}
 use mathlib.Core.Path.{_≡_, refl, ap, _∙_}
 use mathlib.Core.List.{List, _∷_}
 use mathlib.Core.Option.{Option·elim}
 use mathlib.Core.Bool.{Bool, true, false, _&&_}
 use lib.ListN.{length}
-use lib.Seq.{sets, sets-eq}
 use borrow.Author.Tests.{le-leb, lt-leb}
 use Rattle.order.specs.declared.Order.{Order}
 use Rattle.order.specs.Refusal.{fieldRange, noRoom}
@@ -15,9 +13,10 @@ use Rattle.tape.specs.declared.field.Rule.the-variants.{Unit, Address, W
 use Rattle.tape.specs.declared.record.Record.{Record}
 use Rattle.tape.specs.declared.record.Record.the-variants as rec
 use Rattle.tape.specs.declared.write.Written.the-variants as wrote
-use Rattle.tape.specs.Number.{spellAll}
+use Rattle.number.specs.Number.{spellAll, filled}
 use Rattle.tape.specs.Field.{allowed}
-use Rattle.tape.specs.Record.{flag, load, store, flush, order, answer, register, loaded, layoutOf, kindOf, fieldsOf, fits, fitsCommand}
+use Rattle.order.specs.Flag.{flag}
+use Rattle.tape.specs.Record.{load, store, flush, order, answer, register, loaded, layoutOf, kindOf, fieldsOf, fits, fitsCommand}
 use Rattle.tape.specs.Write.{valid, bytesOf, writtenOf, spaceAfter}
 
 and-true : (a : Bool) → a && true ≡ a
@@ -80,12 +79,14 @@ module _ (r : Record) (space : List ℕ) where
   unfolding writtenOf spaceAfter
   write-invalid e = rw e (refl, refl)
 
-  pub write-no-room : (size : ℕ) → valid r ≡ true → size ≡ length (bytesOf r) → length space < size → (wrote.Refused noRoom ≡ writtenOf r (length space)) × (space ≡ spaceAfter r space)
-  unfolding writtenOf spaceAfter
-  write-no-room size e s h = rw (e, lt-leb (length (bytesOf r)) (length space) (rw s at h)) (refl, refl)
+  pub write-no-room : (size : ℕ) → valid r ≡ true → size ≡ length (bytesOf r) → length space < size → wrote.Refused noRoom ≡ writtenOf r (length space)
+  unfolding writtenOf
+  write-no-room size e s h = rw (e, lt-leb (length (bytesOf r)) (length space) (rw s at h))
 
-  pub write-done : (size : ℕ) (last : List ℕ) → valid r ≡ true → size ≡ length (bytesOf r) → size ≤ length space → last ≡ sets space 0 (bytesOf r) → (wrote.Bytes size ≡ writtenOf r (length space)) × (last ≡ spaceAfter r space)
-  unfolding writtenOf spaceAfter
-  write-done size last e s h l =
-      let m : length (bytesOf r) ≤ length space = rw s at h in
-      rw (e, le-leb (length (bytesOf r)) (length space) m, s) (refl, l ∙ sets-eq (bytesOf r) space 0 (rw zero-add m) ∙ rw zero-add)
+  pub write-done : (size : ℕ) → valid r ≡ true → size ≡ length (bytesOf r) → size ≤ length space → wrote.Bytes size ≡ writtenOf r (length space)
+  unfolding writtenOf
+  write-done size e s h = rw (e, le-leb (length (bytesOf r)) (length space) (rw s at h), s)
+
+  pub space-filled : (s left : List ℕ) → valid r ≡ true → s ≡ bytesOf r → left ≡ filled s space → left ≡ spaceAfter r space
+  unfolding spaceAfter
+  space-filled s left e b f = rw (e, ← b) f

@@ -6,11 +6,11 @@ use lib.Dec.{leb, eqb}
 use Rattle.order.specs.declared.Command.{Command}
 use Rattle.order.specs.declared.Command.the-variants as command
 use Rattle.order.specs.Refusal.{fieldRange}
-use Rattle.tape.specs.declared.number.NumberRead.{NumberRead}
-use Rattle.tape.specs.declared.number.NumberRead.the-variants.{Number, Refused}
+use Rattle.number.specs.declared.NumberRead.{NumberRead}
+use Rattle.number.specs.declared.NumberRead.the-variants.{Number, Refused}
 use Rattle.tape.specs.declared.field.Rule.{Rule}
 use Rattle.tape.specs.declared.field.Rule.the-variants.{Unit, Address, Word, Block, Retried, From, To, Byte, Flag, Bct}
-use Rattle.tape.specs.Number.{numberAt}
+use Rattle.number.specs.Number.{numberAt}
 
 -- "retried must be 0 for 2 and 3": an invalidate and a copyback
 unfoldable pub retriedMost : Command → ℕ

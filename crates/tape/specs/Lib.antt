@@ -1,6 +1,7 @@
--- The tape: numbers and records as bytes.
-pub mod Number
+-- The tape: records as bytes.
 pub mod Field
 pub mod Record
+pub mod Refused
 pub mod Write
 pub mod RoundTrip
+pub mod Examples

@@ -9,16 +9,17 @@ use Rattle.order.specs.declared.Command.{Command}
 use Rattle.order.specs.declared.CommandFound.{CommandFound}
 use Rattle.order.specs.declared.CommandFound.the-variants.{Known, Unknown}
 use Rattle.order.specs.Command.{commandNumber, commandOf}
+use Rattle.order.specs.Flag.{flag}
 use Rattle.order.specs.Refusal.{accepted, unknownKind, fieldRange}
-use Rattle.tape.specs.declared.number.NumberRead.{NumberRead}
-use Rattle.tape.specs.declared.number.NumberRead.the-variants.{Number, Refused}
+use Rattle.number.specs.declared.NumberRead.{NumberRead}
+use Rattle.number.specs.declared.NumberRead.the-variants.{Number, Refused}
 use Rattle.tape.specs.declared.field.Rule.{Rule}
 use Rattle.tape.specs.declared.field.Rule.the-variants.{Unit, Address, Word, Block, Retried, From, To, Byte, Flag, Bct}
 use Rattle.tape.specs.declared.record.Record.{Record}
 use Rattle.tape.specs.declared.record.Record.the-variants as rec
 use Rattle.tape.specs.declared.record.RecordRead.{RecordRead}
 use Rattle.tape.specs.declared.record.RecordRead.the-variants as out
-use Rattle.tape.specs.Number.{numberAt, Told}
+use Rattle.number.specs.Number.{numberAt, Told}
 use Rattle.tape.specs.Field.{allowed, fieldAt}
 
 -- a layout, the fields of a kind in order: a number with its rule, or a command, and what follows it; at the end, the record that they make
@@ -26,11 +27,6 @@ pub data Layout : Type 0 where
   field : Rule → (ℕ → Layout) → Layout
   command : (Command → Layout) → Layout
   end : Record → Layout
-
--- a flag's number, 0 or 1
-unfoldable pub flag : Bool → ℕ
-flag false = 0
-flag true = 1
 
 -- the table of kinds, a layout for each. RA takes any 32-bit number as a value does; AID and code are 0-255
 unfoldable pub load : Layout

@@ -7,7 +7,7 @@ use Rattle.order.specs.Refusal.{noRoom}
 use Rattle.tape.specs.declared.record.Record.{Record}
 use Rattle.tape.specs.declared.record.RecordRead.the-variants as read
 use Rattle.tape.specs.declared.write.Written.the-variants as wrote
-use Rattle.tape.specs.Number.{Bytes}
+use Rattle.number.specs.Number.{Bytes}
 use Rattle.tape.specs.Record.{recordAt}
 use Rattle.tape.specs.Write.{writtenOf, spaceAfter}
 

@@ -1,16 +1,16 @@
 -- What a record is written as (document 01, "The tape"), and what writing answers and leaves in the lent space ("Numbers of refusal").
 use Prim.Native.Nat.{ℕ, _≤_}
 use mathlib.Core.Path.{_≡_}
-use mathlib.Core.List.{List, _∷_, _++_}
+use mathlib.Core.List.{List, _∷_}
 use mathlib.Core.Option.{Option·elim}
 use mathlib.Core.Bool.{Bool, false, cond}
-use lib.ListN.{length, take, drop}
+use lib.ListN.{length, take}
 use lib.Dec.{leb}
 use Rattle.order.specs.Refusal.{accepted, fieldRange, noRoom}
 use Rattle.tape.specs.declared.record.Record.{Record}
 use Rattle.tape.specs.declared.write.Written.{Written}
 use Rattle.tape.specs.declared.write.Written.the-variants as wrote
-use Rattle.tape.specs.Number.{spellAll}
+use Rattle.number.specs.Number.{spellAll, filled}
 use Rattle.tape.specs.Record.{layoutOf, kindOf, fieldsOf, fits}
 
 -- each field is one that the table allows
@@ -37,12 +37,9 @@ unfoldable pub writtenCount : Written → ℕ
 writtenCount (wrote.Bytes count) = count
 writtenCount (wrote.Refused number) = 0
 
--- the space afterwards: "it fills the first bytes of the lent space .. and the rest of the space stays"; refused, all of it stays
+-- the space afterwards; refused, all of it stays
 unfoldable pub spaceAfter : Record → List ℕ → List ℕ
-spaceAfter r space =
-    cond (valid r)
-    (cond (leb (length (bytesOf r)) (length space)) (bytesOf r ++ drop (length (bytesOf r)) space) space)
-    space
+spaceAfter r space = cond (valid r) (filled (bytesOf r) space) space
 
 -- the first count of seven values are the numbers ns
 pub record Spells (ns : List ℕ) (count : ℕ) (values : List ℕ) : Type 0 where

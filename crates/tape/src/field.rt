@@ -1,6 +1,6 @@
 // The fields of a record: which numbers each may hold (document 01, "The tape").
-use crate::number::NumberRead;
-use crate::number::read_number;
+use number::NumberRead;
+use number::read_number;
 use order::Command;
 use order::FIELD_RANGE;
 ghost use mathlib.Core.Path.{_≡_};

@@ -1,11 +1,8 @@
-// The tape: numbers and records as bytes, both ways.
+// The tape: records as bytes, both ways.
 mod field;
-mod number;
 mod record;
 mod write;
 
-pub use number::NumberRead;
-pub use number::read_number;
 pub use record::Record;
 pub use record::RecordRead;
 pub use record::read_record;

@@ -1,8 +1,8 @@
 // Records on the tape: the seven kinds, and reading them (document 01, "The tape").
 use crate::field::Rule;
 use crate::field::field;
-use crate::number::NumberRead;
-use crate::number::read_number;
+use number::NumberRead;
+use number::read_number;
 use order::Command;
 use order::CommandFound;
 use order::FIELD_RANGE;

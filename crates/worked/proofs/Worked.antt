@@ -6,8 +6,8 @@ use mathlib.Core.List.{List, [], _∷_, map}
 use mathlib.Core.Option.{Option·elim}
 use native.Mathlib.Omega.{arith}
 use lib.ListN.{replicate}
-use Rattle.bus.specs.Range.{within}
-use Rattle.bus.specs.Bits.{sumBelow, bitAt, onesBelow, fromBits}
+use Rattle.numeric.specs.Range.{within}
+use Rattle.numeric.specs.Bits.{sumBelow, bitAt, onesBelow, fromBits, contains}
 use Rattle.bus.specs.Parity.{byteAt, parityBit, parityOf}
 use Rattle.bus.specs.Lanes.{carriedAt, positionsOf, wordsOf, lanesOf}
 use Rattle.bus.specs.Transfer.{etAtRequest, planOf}
@@ -16,7 +16,7 @@ use Rattle.bus.specs.Answer.{classOf, codeNumber, inRow, codeOf, isError}
 use Rattle.tape.specs.declared.record.Record.the-variants as tape
 use Rattle.tape.specs.declared.record.RecordRead.the-variants as read
 use Rattle.tape.specs.declared.write.Written.the-variants as wrote
-use Rattle.tape.specs.Number.{groups, last, limitOf, carried, readGroups, refusing, numberAt, spellGroups, spell, spellAll}
+use Rattle.number.specs.Number.{groups, last, limitOf, carried, readGroups, refusing, numberAt, spellGroups, spell, spellAll, filled}
 use Rattle.tape.specs.Field.{allowed, ruled, fieldAt}
 use Rattle.tape.specs.Record.{store, layoutOf, andThen, fieldsAt, kindAt, recordAt, kindOf, fieldsOf, fits}
 use Rattle.tape.specs.Write.{valid, bytesOf, writtenOf, spaceAfter}
@@ -24,7 +24,7 @@ use Rattle.coherence.specs.Calls.{answersCold}
 use Rattle.coherence.specs.Demand3.{ordersGiven, loads, stores}
 use Rattle.coherence.specs.Examples.{zeros, drillCalls}
 use Rattle.coherence.proofs.Examples.{examples}
-use Rattle.handler.specs.Handler.{lastUnit, contains, unitGranted, lockNext, locked, met, passed, firstMet, moved, granted, byTurn, lowGrant, grantNext, lockAllowed, stateAllowed, setsAllowed, allowed as admits, arbitration, initial}
+use Rattle.handler.specs.Handler.{lastUnit, unitGranted, lockNext, locked, met, passed, firstMet, moved, granted, byTurn, lowGrant, grantNext, lockAllowed, stateAllowed, setsAllowed, allowed as admits, arbitration, initial}
 use Rattle.worked.specs.Worked.{codes, classes, stored, firstTwo, ordersOfFirstTwo, zeroAndSeven, afterFirst, Worked}
 
 first-two : (ordersOfFirstTwo ≡ 4) × (loads firstTwo ≡ 1) × (stores firstTwo ≡ 1) × (ordersOfFirstTwo ≡ loads firstTwo + 3 * stores firstTwo)
@@ -36,7 +36,7 @@ first-two =
     (o, l, s, omega arith)
 
 pub worked : Worked
-unfolding within sumBelow bitAt onesBelow fromBits byteAt parityBit parityOf carriedAt positionsOf wordsOf lanesOf etAtRequest planOf classOf codeNumber inRow codeOf isError limitOf carried readGroups refusing numberAt spellGroups spell spellAll allowed ruled fieldAt store layoutOf andThen fieldsAt kindAt recordAt kindOf fieldsOf fits valid bytesOf writtenOf spaceAfter lastUnit contains unitGranted lockNext locked met passed firstMet moved granted byTurn lowGrant grantNext lockAllowed stateAllowed setsAllowed admits arbitration initial codes classes stored zeroAndSeven afterFirst Option·elim
+unfolding within sumBelow bitAt onesBelow fromBits byteAt parityBit parityOf carriedAt positionsOf wordsOf lanesOf etAtRequest planOf classOf codeNumber inRow codeOf isError limitOf carried readGroups refusing numberAt spellGroups spell spellAll filled allowed ruled fieldAt store layoutOf andThen fieldsAt kindAt recordAt kindOf fieldsOf fits valid bytesOf writtenOf spaceAfter lastUnit contains unitGranted lockNext locked met passed firstMet moved granted byTurn lowGrant grantNext lockAllowed stateAllowed setsAllowed admits arbitration initial codes classes stored zeroAndSeven afterFirst Option·elim
 worked =
     record {
       p1 = refl;

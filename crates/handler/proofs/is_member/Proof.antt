@@ -1,7 +1,7 @@
 -- `handler::is_member` meets its contract.
 use borrow.Author.Needs.{needs}
 use mathlib.Core.Path.{refl}
-use Rattle.handler.specs.Handler.{contains}
+use Rattle.numeric.specs.Bits.{bitAt, contains}
 use Rattle.handler.proofs.is_member.Statement.{statement}
 use Rattle.handler.proofs.is_member.Tie as tie
 
@@ -9,7 +9,7 @@ shr-result : tie.Need-shr-result
 shr-result c = search needs
 
 returns : tie.Need-returns
-unfolding contains
+unfolding bitAt contains
 returns c = refl
 
 pub is-member-spec : {M : Type 1} → statement M

@@ -1,10 +1,13 @@
 -- `machine::load` meets its contract.
-use borrow.Author.Needs.{needs}
-use Rattle.machine.proofs.Calls.{accepts, refuses}
-use Rattle.machine.proofs.Refusals.{known, address-of}
-use Rattle.coherence.specs.Calls.{unitOf, isTarget, refusal}
+use native.Mathlib.Omega.{arith}
+use mathlib.Core.Path.{refl, sym, _∙_}
+use Rattle.coherence.specs.Calls.{unitOf, isTarget, refusal, act, loaded}
 use Rattle.coherence.specs.declared.Call.the-variants.{Load}
-use mathlib.Core.Path.{sym, _∙_}
+use Rattle.bytes.proofs.StoreLaws.{length-fetched}
+use Rattle.machine.proofs.Refusals.{known, address-of}
+use Rattle.machine.proofs.Accesses.{load-held, load-missed, loaded-in}
+use Rattle.machine.proofs.Calls.{comes-to, refuses}
+use borrow.Author.Needs.{needs}
 use Rattle.machine.proofs.load.Statement.{statement}
 use Rattle.machine.proofs.load.Tie as tie
 
@@ -13,13 +16,6 @@ is-address-requires c κs = search needs
 
 refusal-of-requires : tie.Need-refusal-of-requires
 refusal-of-requires c κs = search needs
-
-load-word-requires : tie.Need-load-word-requires
-load-word-requires c κs =
-    let e = rw (c .before .before .before .before .is-address .ensures) at (c .before .before .before .refusal-of .ensures) in
-    let h = known _ _ _ _ _ (sym e ∙ c .before .before .if1 .taken) in
-    let t = address-of _ (h .target) in
-    (h .unit, t .1, t .0, h .block _, h .sizes)
 
 refused-requires : tie.Need-refused-requires
 refused-requires c κs = search needs
@@ -33,9 +29,54 @@ same-length-2 c = search needs
 returns : tie.Need-returns
 unfolding refusal unitOf isTarget
 returns c =
-    let a = c .before .before .before .before .before .before .before .before .before .before .before .before .before .before .args in
-    let e = rw (c .before .before .before .before .before .before .before .before .before .is-address .ensures) at (c .before .before .before .before .before .before .before .before .refusal-of .ensures) in
-    accepts _ _ _ (Load (a .unit) (a .address)) (sym e ∙ c .before .before .before .before .before .before .before .if1 .taken) (c .before .before .before .before .load-word .ensures)
+    let a = c .before .before .before .before .before .before .before .before .args in
+    let e = rw (c .before .before .before .is-address .ensures) at (c .before .before .refusal-of .ensures) in
+    refuses _ _ _ (Load (a .unit) (a .address)) e (c .before .if1 .taken) (c .refused .ensures)
+
+cast-block : tie.Need-cast-block
+cast-block c =
+    let e = rw (c .before .before .is-address .ensures) at (c .before .refusal-of .ensures) in
+    let h = known _ _ _ _ _ (sym e ∙ c .if1 .left) in
+    omega (arith, address-of _ (h .target) .1)
+
+place-of-requires : tie.Need-place-of-requires
+place-of-requires c κs = search needs
+
+slot-at-requires : tie.Need-slot-at-requires
+slot-at-requires c κs = search needs
+
+cache-place-requires : tie.Need-cache-place-requires
+cache-place-requires c κs = search needs
+
+holds-block-requires : tie.Need-holds-block-requires
+holds-block-requires c κs = search needs
+
+word-at-requires : tie.Need-word-at-requires
+word-at-requires c κs = search needs
+
+no-orders-requires : tie.Need-no-orders-requires
+no-orders-requires c κs = search needs
+
+accepted-requires : tie.Need-accepted-requires
+accepted-requires c κs = search needs
+
+owner-requires : tie.Need-owner-requires
+owner-requires c κs = search needs
+
+fetch-bytes-requires : tie.Need-fetch-bytes-requires
+fetch-bytes-requires c κs = search needs
+
+word-at-requires-2 : tie.Need-word-at-requires-2
+word-at-requires-2 c κs = search needs
+
+fetch-orders-requires : tie.Need-fetch-orders-requires
+fetch-orders-requires c κs = search needs
+
+fetched-requires : tie.Need-fetched-requires
+fetched-requires c κs = search needs
+
+accepted-requires-2 : tie.Need-accepted-requires-2
+accepted-requires-2 c κs = search needs
 
 same-length-3 : tie.Need-same-length-3
 same-length-3 c = search needs
@@ -44,23 +85,37 @@ same-length-4 : tie.Need-same-length-4
 same-length-4 c = search needs
 
 returns-2 : tie.Need-returns-2
-unfolding refusal unitOf isTarget
+unfolding refusal unitOf isTarget act loaded
 returns-2 c =
-    let a = c .before .before .before .before .before .before .before .before .args in
-    let e = rw (c .before .before .before .is-address .ensures) at (c .before .before .refusal-of .ensures) in
-    refuses _ _ _ (Load (a .unit) (a .address)) e (c .before .if1 .left) (c .refused .ensures)
+    let e = rw (c .before .before .before .before .before .before .before .before .before .before .before .is-address .ensures) at (c .before .before .before .before .before .before .before .before .before .before .refusal-of .ensures) in
+    let z = sym e ∙ c .before .before .before .before .before .before .before .before .before .if1 .left in
+    let q = known _ _ _ _ _ z in
+    let s = rw (c .before .before .before .before .before .before .before .before .place-of .ensures) at (c .before .before .before .before .before .before .before .slot-at .ensures) in
+    let h = sym (rw s at (c .before .before .before .before .before .holds-block .ensures)) ∙ c .before .before .before .before .if2 .taken in
+    comes-to _ _ _ (Load _ _) z (load-held _ _ _ _ _ h) (c .accepted .ensures)
+    (rw (c .before .before .before .before .before .before .cache-place .ensures) at (c .before .before .word-at .ensures) ∙ loaded-in _ _ _ _ _ _ q refl)
+    (c .before .no-orders .ensures) refl refl refl
+
+same-length-5 : tie.Need-same-length-5
+same-length-5 c = search needs
+
+same-length-6 : tie.Need-same-length-6
+same-length-6 c = search needs
+
+returns-3 : tie.Need-returns-3
+unfolding refusal unitOf isTarget act loaded
+returns-3 c =
+    let e = rw (c .before .before .before .before .before .before .before .before .before .before .before .before .before .before .before .before .before .before .before .before .is-address .ensures) at (c .before .before .before .before .before .before .before .before .before .before .before .before .before .before .before .before .before .before .before .refusal-of .ensures) in
+    let z = sym e ∙ c .before .before .before .before .before .before .before .before .before .before .before .before .before .before .before .before .before .before .if1 .left in
+    let q = known _ _ _ _ _ z in
+    let n = c .before .before .before .before .before .before .before .before .before .before .before .before .before .before .before .before .before .place-of .ensures in
+    let s = rw n at (c .before .before .before .before .before .before .before .before .before .before .before .before .before .before .before .before .slot-at .ensures) in
+    let h = sym (rw s at (c .before .before .before .before .before .before .before .before .before .before .before .before .before .before .holds-block .ensures)) ∙ c .before .before .before .before .before .before .before .before .before .before .before .before .before .if2 .left in
+    let v = c .before .before .before .before .before .before .before .before .before .before .before .before .owner .ensures in
+    let f = rw (s, n, v) at (c .before .before .before .before .before .before .before .before .before .fetch-bytes .ensures) in
+    comes-to _ _ _ (Load _ _) z (load-missed _ _ _ _ _ q h) (c .accepted2 .ensures)
+    (rw (f .1, c .before .before .before .before .before .before .before .before .before .before .before .before .before .before .before .cache-place .ensures) at (c .before .before .before .word-at2 .ensures) ∙ loaded-in _ _ _ _ _ _ q (length-fetched _ _ _ _ _ _ .1))
+    (rw (s, v) at (c .before .before .fetch-orders .ensures)) (rw (n, v) at (c .before .fetched .ensures)) (f .0) (f .1)
 
 pub load-spec : {M : Type 1} → statement M
-load-spec =
-    tie.close
-    (tie.spec
-    is-address-requires
-    refusal-of-requires
-    load-word-requires
-    refused-requires
-    same-length
-    same-length-2
-    returns
-    same-length-3
-    same-length-4
-    returns-2)
+load-spec = tie.close (tie.spec is-address-requires refusal-of-requires refused-requires same-length same-length-2 returns cast-block place-of-requires slot-at-requires cache-place-requires holds-block-requires word-at-requires no-orders-requires accepted-requires owner-requires fetch-bytes-requires word-at-requires-2 fetch-orders-requires fetched-requires accepted-requires-2 same-length-3 same-length-4 returns-2 same-length-5 same-length-6 returns-3)

@@ -1,10 +1,12 @@
 -- `machine::store` meets its contract.
-use borrow.Author.Needs.{needs}
-use Rattle.machine.proofs.Calls.{accepts, refuses}
-use Rattle.machine.proofs.Refusals.{known, address-of}
-use Rattle.coherence.specs.Calls.{unitOf, isTarget, refusal}
+use native.Mathlib.Omega.{arith}
+use mathlib.Core.Path.{refl, sym, _∙_}
+use Rattle.coherence.specs.Calls.{unitOf, isTarget, refusal, act, loaded}
 use Rattle.coherence.specs.declared.Call.the-variants.{Store}
-use mathlib.Core.Path.{sym, _∙_}
+use Rattle.machine.proofs.Refusals.{known, address-of}
+use Rattle.machine.proofs.Accesses.{store-owned, store-shared, store-missed}
+use Rattle.machine.proofs.Calls.{comes-to, refuses}
+use borrow.Author.Needs.{needs}
 use Rattle.machine.proofs.store.Statement.{statement}
 use Rattle.machine.proofs.store.Tie as tie
 
@@ -13,13 +15,6 @@ is-address-requires c κs = search needs
 
 refusal-of-requires : tie.Need-refusal-of-requires
 refusal-of-requires c κs = search needs
-
-store-word-requires : tie.Need-store-word-requires
-store-word-requires c κs =
-    let e = rw (c .before .before .before .before .is-address .ensures) at (c .before .before .before .refusal-of .ensures) in
-    let h = known _ _ _ _ _ (sym e ∙ c .before .before .if1 .taken) in
-    let t = address-of _ (h .target) in
-    (h .unit, t .1, t .0, h .block _, h .sizes)
 
 refused-requires : tie.Need-refused-requires
 refused-requires c κs = search needs
@@ -33,9 +28,36 @@ same-length-2 c = search needs
 returns : tie.Need-returns
 unfolding refusal unitOf isTarget
 returns c =
-    let a = c .before .before .before .before .before .before .before .before .before .before .before .before .before .before .args in
-    let e = rw (c .before .before .before .before .before .before .before .before .before .is-address .ensures) at (c .before .before .before .before .before .before .before .before .refusal-of .ensures) in
-    accepts _ _ _ (Store (a .unit) (a .address) (a .value)) (sym e ∙ c .before .before .before .before .before .before .before .if1 .taken) (c .before .before .before .before .store-word .ensures)
+    let a = c .before .before .before .before .before .before .before .before .args in
+    let e = rw (c .before .before .before .is-address .ensures) at (c .before .before .refusal-of .ensures) in
+    refuses _ _ _ (Store (a .unit) (a .address) (a .value)) e (c .before .if1 .taken) (c .refused .ensures)
+
+cast-block : tie.Need-cast-block
+cast-block c =
+    let e = rw (c .before .before .is-address .ensures) at (c .before .refusal-of .ensures) in
+    let h = known _ _ _ _ _ (sym e ∙ c .if1 .left) in
+    omega (arith, address-of _ (h .target) .1)
+
+place-of-requires : tie.Need-place-of-requires
+place-of-requires c κs = search needs
+
+slot-at-requires : tie.Need-slot-at-requires
+slot-at-requires c κs = search needs
+
+cache-place-requires : tie.Need-cache-place-requires
+cache-place-requires c κs = search needs
+
+has-modified-requires : tie.Need-has-modified-requires
+has-modified-requires c κs = search needs
+
+put-word-requires : tie.Need-put-word-requires
+put-word-requires c κs = search needs
+
+no-orders-requires : tie.Need-no-orders-requires
+no-orders-requires c κs = search needs
+
+accepted-requires : tie.Need-accepted-requires
+accepted-requires c κs = search needs
 
 same-length-3 : tie.Need-same-length-3
 same-length-3 c = search needs
@@ -44,23 +66,91 @@ same-length-4 : tie.Need-same-length-4
 same-length-4 c = search needs
 
 returns-2 : tie.Need-returns-2
-unfolding refusal unitOf isTarget
+unfolding refusal unitOf isTarget act loaded
 returns-2 c =
-    let a = c .before .before .before .before .before .before .before .before .args in
-    let e = rw (c .before .before .before .is-address .ensures) at (c .before .before .refusal-of .ensures) in
-    refuses _ _ _ (Store (a .unit) (a .address) (a .value)) e (c .before .if1 .left) (c .refused .ensures)
+    let e = rw (c .before .before .before .before .before .before .before .before .before .before .before .before .before .is-address .ensures) at (c .before .before .before .before .before .before .before .before .before .before .before .before .refusal-of .ensures) in
+    let z = sym e ∙ c .before .before .before .before .before .before .before .before .before .before .before .if1 .left in
+    let q = known _ _ _ _ _ z in
+    let s = rw (c .before .before .before .before .before .before .before .before .before .before .place-of .ensures) at (c .before .before .before .before .before .before .before .before .before .slot-at .ensures) in
+    let g = sym (rw s at (c .before .before .before .before .before .before .before .has-modified .ensures)) ∙ c .before .before .before .before .before .before .if2 .taken in
+    comes-to _ _ _ (Store _ _ _) z (store-owned _ _ _ _ _ _ q g) (c .accepted .ensures) refl (c .before .no-orders .ensures) refl refl
+    (rw (c .before .before .before .before .before .before .before .before .cache-place .ensures) at (c .before .before .before .before .put-word .ensures))
+
+holds-block-requires : tie.Need-holds-block-requires
+holds-block-requires c κs = search needs
+
+put-word-requires-2 : tie.Need-put-word-requires-2
+put-word-requires-2 c κs = search needs
+
+one-order-requires : tie.Need-one-order-requires
+one-order-requires c κs = search needs
+
+claimed-requires : tie.Need-claimed-requires
+claimed-requires c κs = search needs
+
+accepted-requires-2 : tie.Need-accepted-requires-2
+accepted-requires-2 c κs = search needs
+
+owner-requires : tie.Need-owner-requires
+owner-requires c κs = search needs
+
+fetch-bytes-requires : tie.Need-fetch-bytes-requires
+fetch-bytes-requires c κs = search needs
+
+put-word-requires-3 : tie.Need-put-word-requires-3
+put-word-requires-3 c κs = search needs
+
+fetch-orders-requires : tie.Need-fetch-orders-requires
+fetch-orders-requires c κs = search needs
+
+fetched-requires : tie.Need-fetched-requires
+fetched-requires c κs = search needs
+
+claimed-requires-2 : tie.Need-claimed-requires-2
+claimed-requires-2 c κs = search needs
+
+accepted-requires-3 : tie.Need-accepted-requires-3
+accepted-requires-3 c κs = search needs
+
+same-length-5 : tie.Need-same-length-5
+same-length-5 c = search needs
+
+same-length-6 : tie.Need-same-length-6
+same-length-6 c = search needs
+
+returns-3 : tie.Need-returns-3
+unfolding refusal unitOf isTarget act loaded
+returns-3 c =
+    let e = rw (c .before .before .before .before .before .before .before .before .before .before .before .before .before .before .before .before .is-address .ensures) at (c .before .before .before .before .before .before .before .before .before .before .before .before .before .before .before .refusal-of .ensures) in
+    let z = sym e ∙ c .before .before .before .before .before .before .before .before .before .before .before .before .before .before .if1 .left in
+    let q = known _ _ _ _ _ z in
+    let s = rw (c .before .before .before .before .before .before .before .before .before .before .before .before .before .place-of .ensures) at (c .before .before .before .before .before .before .before .before .before .before .before .before .slot-at .ensures) in
+    let g = sym (rw s at (c .before .before .before .before .before .before .before .before .before .before .has-modified .ensures)) ∙ c .before .before .before .before .before .before .before .before .before .if2 .left in
+    let h = sym (rw s at (c .before .before .before .before .before .before .before .before .holds-block .ensures)) ∙ c .before .before .before .before .before .before .before .if3 .taken in
+    comes-to _ _ _ (Store _ _ _) z (store-shared _ _ _ _ _ _ q g h) (c .accepted2 .ensures) refl (c .before .before .one-order .ensures) (c .before .claimed .ensures) refl
+    (rw (c .before .before .before .before .before .before .before .before .before .before .before .cache-place .ensures) at (c .before .before .before .before .before .put-word2 .ensures))
+
+same-length-7 : tie.Need-same-length-7
+same-length-7 c = search needs
+
+same-length-8 : tie.Need-same-length-8
+same-length-8 c = search needs
+
+returns-4 : tie.Need-returns-4
+unfolding refusal unitOf isTarget act loaded
+returns-4 c =
+    let e = rw (c .before .before .before .before .before .before .before .before .before .before .before .before .before .before .before .before .before .before .before .before .before .before .before .before .before .is-address .ensures) at (c .before .before .before .before .before .before .before .before .before .before .before .before .before .before .before .before .before .before .before .before .before .before .before .before .refusal-of .ensures) in
+    let z = sym e ∙ c .before .before .before .before .before .before .before .before .before .before .before .before .before .before .before .before .before .before .before .before .before .before .before .if1 .left in
+    let q = known _ _ _ _ _ z in
+    let n = c .before .before .before .before .before .before .before .before .before .before .before .before .before .before .before .before .before .before .before .before .before .before .place-of .ensures in
+    let s = rw n at (c .before .before .before .before .before .before .before .before .before .before .before .before .before .before .before .before .before .before .before .before .before .slot-at .ensures) in
+    let g = sym (rw s at (c .before .before .before .before .before .before .before .before .before .before .before .before .before .before .before .before .before .before .before .has-modified .ensures)) ∙ c .before .before .before .before .before .before .before .before .before .before .before .before .before .before .before .before .before .before .if2 .left in
+    let h = sym (rw s at (c .before .before .before .before .before .before .before .before .before .before .before .before .before .before .before .before .before .holds-block .ensures)) ∙ c .before .before .before .before .before .before .before .before .before .before .before .before .before .before .before .before .if3 .left in
+    let v = c .before .before .before .before .before .before .before .before .before .before .before .before .before .before .before .owner .ensures in
+    let f = rw (s, n, v) at (c .before .before .before .before .before .before .before .before .before .before .before .before .fetch-bytes .ensures) in
+    let d = rw (n, v) at (c .before .before .fetched .ensures) in
+    comes-to _ _ _ (Store _ _ _) z (store-missed _ _ _ _ _ _ q g h) (c .accepted3 .ensures) refl (rw (s, v) at (c .before .before .before .fetch-orders .ensures))
+    (rw d at (c .before .claimed2 .ensures)) (f .0) (rw (f .1, c .before .before .before .before .before .before .before .before .before .before .before .before .before .before .before .before .before .before .before .before .cache-place .ensures) at (c .before .before .before .before .before .before .put-word3 .ensures))
 
 pub store-spec : {M : Type 1} → statement M
-store-spec =
-    tie.close
-    (tie.spec
-    is-address-requires
-    refusal-of-requires
-    store-word-requires
-    refused-requires
-    same-length
-    same-length-2
-    returns
-    same-length-3
-    same-length-4
-    returns-2)
+store-spec = tie.close (tie.spec is-address-requires refusal-of-requires refused-requires same-length same-length-2 returns cast-block place-of-requires slot-at-requires cache-place-requires has-modified-requires put-word-requires no-orders-requires accepted-requires same-length-3 same-length-4 returns-2 holds-block-requires put-word-requires-2 one-order-requires claimed-requires accepted-requires-2 owner-requires fetch-bytes-requires put-word-requires-3 fetch-orders-requires fetched-requires claimed-requires-2 accepted-requires-3 same-length-5 same-length-6 returns-3 same-length-7 same-length-8 returns-4)

@@ -1,6 +1,6 @@
 -- `bus::answer::in_row` meets its contract.
 use borrow.Author.Needs.{needs}
-use Rattle.bus.proofs.RangeLaws.{within-in, within-under, within-over}
+use Rattle.numeric.proofs.RangeLaws.{within-in, within-under, within-over}
 use Rattle.bus.proofs.answer.in_row.Statement.{statement}
 use Rattle.bus.proofs.answer.in_row.Tie as tie
 

@@ -2,7 +2,7 @@
 use borrow.Author.Needs.{needs}
 use mathlib.Core.Path.{refl}
 use native.Mathlib.Omega.{arith}
-use Rattle.bus.specs.Bits.{bitAt}
+use Rattle.numeric.specs.Bits.{bitAt}
 use Rattle.bus.proofs.parity.bit_at.Statement.{statement}
 use Rattle.bus.proofs.parity.bit_at.Tie as tie
 

@@ -3,7 +3,7 @@ use borrow.Author.Needs.{needs}
 use Prim.Native.Nat.{ℕ, _-_, _≤_}
 use mathlib.Core.Path.{_≡_, refl, ap, _∙_}
 use native.Mathlib.Omega.{arith}
-use Rattle.bus.specs.Bits.{sumBelow, fromBits}
+use Rattle.numeric.specs.Bits.{sumBelow, fromBits}
 use Rattle.bus.specs.Parity.{wrongAt, wrongOf}
 use Rattle.bus.proofs.ParityLaws.{wrong-fits, wrong-step, wrong-step-fits}
 use Rattle.bus.proofs.parity.wrong_set.Statement.{statement}

@@ -3,7 +3,7 @@ use borrow.Author.Needs.{needs}
 use mathlib.Core.Path.{sym, _∙_}
 use native.Mathlib.Omega.{arith}
 use Rattle.bus.specs.Transfer.{etAtRequest}
-use Rattle.bus.proofs.RangeLaws.{within-under, within-over}
+use Rattle.numeric.proofs.RangeLaws.{within-under, within-over}
 use Rattle.bus.proofs.TransferLaws.{plan-accepted, plan-no-transfer, plan-no-cycle}
 use Rattle.bus.proofs.transfer.plan.Statement.{statement}
 use Rattle.bus.proofs.transfer.plan.Tie as tie

@@ -3,7 +3,7 @@ use Prim.Native.Nat.{_-_}
 use mathlib.Core.Path.{refl, sym, _∙_}
 use native.Mathlib.Omega.{arith}
 use lib.ListN.{length}
-use Rattle.drill_text.proofs.RecordLaws.{record-place}
+use Rattle.reading.proofs.RecordLaws.{record-place}
 use Rattle.drill_text.proofs.Underway.{Underway, begun, onward, finished-text, refused-text}
 use borrow.Author.Needs.{needs}
 use Rattle.drill_text.proofs.run.run_tape.Statement.{statement}

@@ -3,7 +3,7 @@ use borrow.Author.Needs.{needs}
 use Prim.Native.Nat.{ℕ, _≤_, _-_, _*_}
 use mathlib.Core.Path.{_≡_, sym, _∙_, ap}
 use native.Mathlib.Omega.{arith}
-use Rattle.refusal.specs.Soundness.{sumBelow}
+use Rattle.numeric.specs.Bits.{sumBelow}
 use Rattle.refusal.proofs.Faults.{faultsAt, sum-zero, count-step, count-sound}
 use Rattle.refusal.proofs.soundness.is_sound.Statement.{statement}
 use Rattle.refusal.proofs.soundness.is_sound.Tie as tie

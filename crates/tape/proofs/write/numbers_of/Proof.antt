@@ -1,4 +1,5 @@
 -- `tape::write::numbers_of` meets its contract.
+use mathlib.Core.Path.{refl}
 use Rattle.tape.specs.Record.{kindOf, fieldsOf}
 use borrow.Author.Needs.{needs}
 use Rattle.tape.proofs.write.numbers_of.Statement.{statement}
@@ -7,115 +8,159 @@ use Rattle.tape.proofs.write.numbers_of.Tie as tie
 enum-known-item : tie.Need-enum-known-item
 enum-known-item c = search needs
 
-cast-two-numbers : tie.Need-cast-two-numbers
-cast-two-numbers c = search needs
+cast-t27 : tie.Need-cast-t27
+cast-t27 c = search needs
 
-cast-two-numbers-2 : tie.Need-cast-two-numbers-2
-cast-two-numbers-2 c = search needs
-
-two-numbers-requires : tie.Need-two-numbers-requires
-two-numbers-requires c κs = search needs
+cast-t28 : tie.Need-cast-t28
+cast-t28 c = search needs
 
 enum-known-item-2 : tie.Need-enum-known-item-2
 enum-known-item-2 c = search needs
 
-store-numbers-requires : tie.Need-store-numbers-requires
-store-numbers-requires c κs = search needs
+cast-t30 : tie.Need-cast-t30
+cast-t30 c = search needs
+
+cast-t31 : tie.Need-cast-t31
+cast-t31 c = search needs
+
+cast-t32 : tie.Need-cast-t32
+cast-t32 c = search needs
 
 enum-known-item-3 : tie.Need-enum-known-item-3
 enum-known-item-3 c = search needs
 
-cast-two-numbers-3 : tie.Need-cast-two-numbers-3
-cast-two-numbers-3 c = search needs
+cast-t34 : tie.Need-cast-t34
+cast-t34 c = search needs
 
-cast-two-numbers-4 : tie.Need-cast-two-numbers-4
-cast-two-numbers-4 c = search needs
-
-two-numbers-requires-2 : tie.Need-two-numbers-requires-2
-two-numbers-requires-2 c κs = search needs
+cast-t35 : tie.Need-cast-t35
+cast-t35 c = search needs
 
 enum-known-item-4 : tie.Need-enum-known-item-4
 enum-known-item-4 c = search needs
 
-order-numbers-requires : tie.Need-order-numbers-requires
-order-numbers-requires c κs = search needs
+command-number-requires : tie.Need-command-number-requires
+command-number-requires c κs = search needs
+
+flag-number-requires : tie.Need-flag-number-requires
+flag-number-requires c κs = search needs
+
+cast-t37 : tie.Need-cast-t37
+cast-t37 c = search needs
+
+cast-t38 : tie.Need-cast-t38
+cast-t38 c = search needs
+
+cast-t39 : tie.Need-cast-t39
+cast-t39 c = search needs
 
 enum-known-item-5 : tie.Need-enum-known-item-5
 enum-known-item-5 c = search needs
 
-answer-numbers-requires : tie.Need-answer-numbers-requires
-answer-numbers-requires c κs = search needs
+cast-t41 : tie.Need-cast-t41
+cast-t41 c = search needs
+
+cast-t42 : tie.Need-cast-t42
+cast-t42 c = search needs
+
+cast-t43 : tie.Need-cast-t43
+cast-t43 c = search needs
+
+cast-t44 : tie.Need-cast-t44
+cast-t44 c = search needs
 
 enum-known-item-6 : tie.Need-enum-known-item-6
 enum-known-item-6 c = search needs
 
-register-numbers-requires : tie.Need-register-numbers-requires
-register-numbers-requires c κs = search needs
+flag-number-requires-2 : tie.Need-flag-number-requires-2
+flag-number-requires-2 c κs = search needs
+
+cast-t46 : tie.Need-cast-t46
+cast-t46 c = search needs
+
+cast-t47 : tie.Need-cast-t47
+cast-t47 c = search needs
+
+cast-t48 : tie.Need-cast-t48
+cast-t48 c = search needs
+
+cast-t49 : tie.Need-cast-t49
+cast-t49 c = search needs
+
+cast-t50 : tie.Need-cast-t50
+cast-t50 c = search needs
 
 enum-known-item-7 : tie.Need-enum-known-item-7
 enum-known-item-7 c = search needs
 
-cast-two-numbers-5 : tie.Need-cast-two-numbers-5
-cast-two-numbers-5 c = search needs
+cast-t52 : tie.Need-cast-t52
+cast-t52 c = search needs
 
-cast-two-numbers-6 : tie.Need-cast-two-numbers-6
-cast-two-numbers-6 c = search needs
-
-two-numbers-requires-3 : tie.Need-two-numbers-requires-3
-two-numbers-requires-3 c κs = search needs
+cast-t53 : tie.Need-cast-t53
+cast-t53 c = search needs
 
 returns : tie.Need-returns
 unfolding kindOf fieldsOf
-returns c = rw (c .before .before .item .given .1) (c .two-numbers .ensures)
+returns c = rw (c .before .item .given .1) (record { few = search needs; long = search needs; same = refl })
 
 returns-2 : tie.Need-returns-2
 unfolding kindOf fieldsOf
-returns-2 c = rw (c .before .before .item2 .given .1) (c .store-numbers .ensures)
+returns-2 c = rw (c .before .item2 .given .1) (record { few = search needs; long = search needs; same = refl })
 
 returns-3 : tie.Need-returns-3
 unfolding kindOf fieldsOf
-returns-3 c = rw (c .before .before .item3 .given .1) (c .two-numbers2 .ensures)
+returns-3 c = rw (c .before .item3 .given .1) (record { few = search needs; long = search needs; same = refl })
 
 returns-4 : tie.Need-returns-4
 unfolding kindOf fieldsOf
-returns-4 c = rw (c .before .before .item4 .given .1) (c .order-numbers .ensures)
+returns-4 c = rw (c .before .before .before .before .before .item4 .given .1) (record { few = search needs; long = search needs; same = rw (c .before .before .flag-number .ensures, c .before .before .before .command-number .ensures) })
 
 returns-5 : tie.Need-returns-5
 unfolding kindOf fieldsOf
-returns-5 c = rw (c .before .before .item5 .given .1) (c .answer-numbers .ensures)
+returns-5 c = rw (c .before .item5 .given .1) (record { few = search needs; long = search needs; same = refl })
 
 returns-6 : tie.Need-returns-6
 unfolding kindOf fieldsOf
-returns-6 c = rw (c .before .before .item6 .given .1) (c .register-numbers .ensures)
+returns-6 c = rw (c .before .before .item6 .given .1) (record { few = search needs; long = search needs; same = rw (c .flag-number2 .ensures) })
 
 returns-7 : tie.Need-returns-7
 unfolding kindOf fieldsOf
-returns-7 c = rw (c .before .before .item7 .given .1) (c .two-numbers3 .ensures)
+returns-7 c = rw (c .before .item7 .given .1) (record { few = search needs; long = search needs; same = refl })
 
 pub numbers-of-spec : {M : Type 1} → statement M
 numbers-of-spec =
     tie.close
     (tie.spec
     enum-known-item
-    cast-two-numbers
-    cast-two-numbers-2
-    two-numbers-requires
+    cast-t27
+    cast-t28
     enum-known-item-2
-    store-numbers-requires
+    cast-t30
+    cast-t31
+    cast-t32
     enum-known-item-3
-    cast-two-numbers-3
-    cast-two-numbers-4
-    two-numbers-requires-2
+    cast-t34
+    cast-t35
     enum-known-item-4
-    order-numbers-requires
+    command-number-requires
+    flag-number-requires
+    cast-t37
+    cast-t38
+    cast-t39
     enum-known-item-5
-    answer-numbers-requires
+    cast-t41
+    cast-t42
+    cast-t43
+    cast-t44
     enum-known-item-6
-    register-numbers-requires
+    flag-number-requires-2
+    cast-t46
+    cast-t47
+    cast-t48
+    cast-t49
+    cast-t50
     enum-known-item-7
-    cast-two-numbers-5
-    cast-two-numbers-6
-    two-numbers-requires-3
+    cast-t52
+    cast-t53
     returns
     returns-2
     returns-3

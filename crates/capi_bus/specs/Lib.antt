@@ -1,0 +1,3 @@
+-- What crosses between the bus and a program in another language.
+pub mod Bus
+pub mod Class

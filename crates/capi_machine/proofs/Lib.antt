@@ -1,0 +1,4 @@
+pub mod CallLaws
+pub mod PlaceLaws
+pub mod Sizes
+pub mod FollowLaws

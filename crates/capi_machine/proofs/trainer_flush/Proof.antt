@@ -1,0 +1,78 @@
+-- `capi_machine::trainer_flush` meets its contract.
+use borrow.Author.Needs.{needs}
+use Rattle.coherence.specs.declared.Call.the-variants.{Flush}
+use Rattle.coherence.specs.Demand3.{Answered}
+use Rattle.layout.specs.Directory.{decoded}
+use Rattle.capi_machine.specs.Call.{narrowed}
+use Rattle.capi_machine.proofs.CallLaws.{no-room, can-hand-over, handed-over}
+use Rattle.capi_machine.proofs.trainer_flush.Statement.{statement}
+use Rattle.capi_machine.proofs.trainer_flush.Tie as tie
+
+cast-result : tie.Need-cast-result
+cast-result c = search needs
+
+returns : tie.Need-returns
+returns c =
+    let a = c .before .before .before .before .before .args in
+    let l = no-room (a .directory .now) (a .memory .now) (a .cache .now) (a .answer .now) (Flush (narrowed (a .unit)) (narrowed (a .block))) (c .if1 .taken) in
+    (l .code, l .directory, l .memory, l .answer)
+
+decode-requires : tie.Need-decode-requires
+decode-requires c κs = search needs
+
+byte-requires : tie.Need-byte-requires
+byte-requires c κs = search needs
+
+byte-requires-2 : tie.Need-byte-requires-2
+byte-requires-2 c κs = search needs
+
+flush-requires : tie.Need-flush-requires
+flush-requires c κs = search needs
+
+-- the machine's call, on the directory that the bytes spell
+answered : (c : tie.After-flush) →
+    let a = c .before .before .before .before .before .before .before .before .before .before .before .args in
+    Answered (decoded (a .directory .now)) (a .memory .now) (a .cache .now) (Flush (narrowed (a .unit)) (narrowed (a .block))) (c .flush .result) (c .flush .last .1 .0) (a .cache .now)
+answered c =
+    let d = c .before .before .before .before .decode .ensures in
+    let n = c .before .before .byte .ensures in
+    let b = c .before .byte2 .ensures in
+    let s = c .flush .ensures in
+    record { answers = rw (d, n, b) at (s .0); memory = rw (d, n, b) at (s .1); cache = rw (d, n, b) at (s .2) }
+
+hand-over-requires : tie.Need-hand-over-requires
+hand-over-requires c κs =
+    let a = c .before .before .before .before .before .before .before .before .before .before .before .before .before .before .before .args in
+    can-hand-over (a .directory .now) (a .memory .now) (a .cache .now) (a .answer .now) _ _ _ _ (answered (c .before .before .before .before))
+    (c .before .before .before .before .before .before .before .before .before .before .if1 .left)
+
+same-length : tie.Need-same-length
+same-length c = search needs
+
+same-length-2 : tie.Need-same-length-2
+same-length-2 c = search needs
+
+same-length-3 : tie.Need-same-length-3
+same-length-3 c = search needs
+
+returns-2 : tie.Need-returns-2
+returns-2 c =
+    let a = c .before .before .before .before .before .before .before .before .before .before .before .before .before .before .before .before .before .before .before .before .args in
+    let l = handed-over (a .directory .now) (a .memory .now) (a .cache .now) (a .answer .now) _ _ _ _ _ _ _ (answered (c .before .before .before .before .before .before .before .before .before)) (c .before .before .before .before .before .before .before .before .before .before .before .before .before .before .before .if1 .left) (c .before .before .before .before .hand-over .ensures) in
+    (l .code, l .directory, l .memory, l .answer)
+
+pub trainer-flush-spec : {M : Type 1} → statement M
+trainer-flush-spec =
+    tie.close
+    (tie.spec
+    cast-result
+    returns
+    decode-requires
+    byte-requires
+    byte-requires-2
+    flush-requires
+    hand-over-requires
+    same-length
+    same-length-2
+    same-length-3
+    returns-2)

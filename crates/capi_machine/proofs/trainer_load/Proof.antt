@@ -1,0 +1,77 @@
+-- `capi_machine::trainer_load` meets its contract.
+use borrow.Author.Needs.{needs}
+use Rattle.coherence.specs.declared.Call.the-variants.{Load}
+use Rattle.coherence.specs.Demand3.{Answered}
+use Rattle.layout.specs.Directory.{decoded}
+use Rattle.capi_machine.specs.Call.{narrowed}
+use Rattle.capi_machine.proofs.CallLaws.{no-room, can-hand-over, handed-over}
+use Rattle.capi_machine.proofs.trainer_load.Statement.{statement}
+use Rattle.capi_machine.proofs.trainer_load.Tie as tie
+
+cast-result : tie.Need-cast-result
+cast-result c = search needs
+
+returns : tie.Need-returns
+returns c =
+    let a = c .before .before .before .before .before .args in
+    let l = no-room (a .directory .now) (a .memory .now) (a .cache .now) (a .answer .now) (Load (narrowed (a .unit)) (a .address)) (c .if1 .taken) in
+    (l .code, l .directory, l .memory, l .cache, l .answer)
+
+decode-requires : tie.Need-decode-requires
+decode-requires c κs = search needs
+
+byte-requires : tie.Need-byte-requires
+byte-requires c κs = search needs
+
+load-requires : tie.Need-load-requires
+load-requires c κs = search needs
+
+-- the machine's call, on the directory that the bytes spell
+answered : (c : tie.After-load) →
+    let a = c .before .before .before .before .before .before .before .before .before .before .before .args in
+    Answered (decoded (a .directory .now)) (a .memory .now) (a .cache .now) (Load (narrowed (a .unit)) (a .address)) (c .load .result) (c .load .last .1 .0) (c .load .last .1 .1 .0)
+answered c =
+    let d = c .before .before .before .before .decode .ensures in
+    let n = c .before .byte .ensures in
+    let s = c .load .ensures in
+    record { answers = rw (d, n) at (s .0); memory = rw (d, n) at (s .1); cache = rw (d, n) at (s .2) }
+
+hand-over-requires : tie.Need-hand-over-requires
+hand-over-requires c κs =
+    let a = c .before .before .before .before .before .before .before .before .before .before .before .before .before .before .before .before .before .args in
+    can-hand-over (a .directory .now) (a .memory .now) (a .cache .now) (a .answer .now) _ _ _ _ (answered (c .before .before .before .before .before .before))
+    (c .before .before .before .before .before .before .before .before .before .before .before .before .if1 .left)
+
+same-length : tie.Need-same-length
+same-length c = search needs
+
+same-length-2 : tie.Need-same-length-2
+same-length-2 c = search needs
+
+same-length-3 : tie.Need-same-length-3
+same-length-3 c = search needs
+
+same-length-4 : tie.Need-same-length-4
+same-length-4 c = search needs
+
+returns-2 : tie.Need-returns-2
+returns-2 c =
+    let a = c .before .before .before .before .before .before .before .before .before .before .before .before .before .before .before .before .before .before .before .before .before .before .args in
+    let l = handed-over (a .directory .now) (a .memory .now) (a .cache .now) (a .answer .now) _ _ _ _ _ _ _ (answered (c .before .before .before .before .before .before .before .before .before .before .before)) (c .before .before .before .before .before .before .before .before .before .before .before .before .before .before .before .before .before .if1 .left) (c .before .before .before .before .hand-over .ensures) in
+    (l .code, l .directory, l .memory, l .cache, l .answer)
+
+pub trainer-load-spec : {M : Type 1} → statement M
+trainer-load-spec =
+    tie.close
+    (tie.spec
+    cast-result
+    returns
+    decode-requires
+    byte-requires
+    load-requires
+    hand-over-requires
+    same-length
+    same-length-2
+    same-length-3
+    same-length-4
+    returns-2)

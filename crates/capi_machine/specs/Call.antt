@@ -1,0 +1,42 @@
+-- What a call through the C interface answers and leaves, from the directory's bytes d, the memory store m, the cache store k and the answer's
+-- space a, for the call c of the machine. "Machine calls test 1, 2, 3, 4 in that order"; before them, 9 if the answer's space is too small.
+use Prim.Native.Nat.{ℕ, _≤_}
+use mathlib.Core.Path.{_≡_}
+use mathlib.Core.Bool.{cond}
+use mathlib.Core.List.{List, _++_}
+use lib.ListN.{length, drop}
+use lib.Dec.{leb, eqb}
+use Rattle.order.specs.Refusal.{accepted, noRoom}
+use Rattle.coherence.specs.declared.Call.{Call}
+use Rattle.coherence.specs.Refusal.{isUnit, isBlock}
+use Rattle.coherence.specs.Calls.{refusal, answer, memoryAfter, cacheAfter}
+use Rattle.crossing.specs.Capped.{capped}
+use Rattle.layout.specs.Directory.{decoded, encoded}
+use Rattle.layout.specs.Answer.{answerSize, answerNumbers}
+
+-- a unit's or a block's number in a byte: 255 is no unit and no block, and is refused as those above it would be
+abbrev pub narrowed : ℕ → ℕ
+narrowed n = capped 255 n
+
+-- so that the tests of both stay, and what a byte holds stays what it is
+pub record Narrows : Type 0 where
+  pub unit : (n : ℕ) → isUnit (narrowed n) ≡ isUnit n
+  pub block : (n : ℕ) → isBlock (narrowed n) ≡ isBlock n
+  pub kept : (n : ℕ) → n ≤ 255 → narrowed n ≡ n
+
+-- the number that the call returns
+unfoldable pub returned : List ℕ → List ℕ → List ℕ → List ℕ → Call → ℕ
+returned d m k a c = cond (leb answerSize (length a)) (refusal (decoded d) m k c) noRoom
+
+unfoldable pub directoryLeft : List ℕ → List ℕ → List ℕ → List ℕ → Call → List ℕ
+directoryLeft d m k a c = cond (eqb (returned d m k a c) accepted) (encoded (answer (decoded d) m k c .directory)) d
+
+unfoldable pub memoryLeft : List ℕ → List ℕ → List ℕ → List ℕ → Call → List ℕ
+memoryLeft d m k a c = cond (eqb (returned d m k a c) accepted) (memoryAfter (decoded d) m k c) m
+
+unfoldable pub cacheLeft : List ℕ → List ℕ → List ℕ → List ℕ → Call → List ℕ
+cacheLeft d m k a c = cond (eqb (returned d m k a c) accepted) (cacheAfter (decoded d) m k c) k
+
+unfoldable pub answerLeft : List ℕ → List ℕ → List ℕ → List ℕ → Call → List ℕ
+answerLeft d m k a c =
+    cond (eqb (returned d m k a c) accepted) (answerNumbers (answer (decoded d) m k c) ++ drop answerSize a) a

@@ -1,0 +1,115 @@
+// The cache machine for programs in other languages: `include/trainer.h` declares these functions. Slices cross as pointer and length, all else as
+// numbers. Each function is total, and a refused call writes nothing but what its contract says.
+mod call;
+mod place;
+
+use call::hand_over;
+use crossing::byte;
+use layout::decode;
+use layout::encode;
+use order::NO_ROOM;
+use place::place_of;
+ghost use mathlib.Core.Path.{_≡_};
+ghost use Rattle.coherence.specs.declared.Call.the-variants.{Load, Store, Flush};
+ghost use Rattle.capi_machine.specs.Start.{startReturned, startCache, startDirectory};
+ghost use Rattle.capi_machine.specs.Call.{narrowed, returned, directoryLeft, memoryLeft, cacheLeft, answerLeft};
+ghost use Rattle.capi_machine.specs.Place.{peekReturned, storeLeft, offsetLeft};
+
+// Starts cold, and writes the directory.
+#[no_mangle]
+pub extern "C" fn trainer_cold_start(memory: &[u8], cache: &mut [u8], directory: &mut [u8]) -> u32
+    ensures { λ r. ⌜ (r ≡ startReturned (now (memory .entry)) (now (cache .entry)) (now (directory .entry))) × (now (cache .exit) ≡ startCache (now (memory .entry)) (now (cache .entry)) (now (directory .entry))) × (now (directory .exit) ≡ startDirectory (now (directory .entry))) ⌝ }
+{
+    if directory.len() < 128 {
+        return NO_ROOM as u32;
+    }
+    let start = machine::cold_start(memory, cache);
+    let left = start.directory;
+    encode(left, directory);
+    start.refusal as u32
+}
+
+// Unit loads the word at address.
+#[no_mangle]
+pub extern "C" fn trainer_load(
+    directory: &mut [u8],
+    memory: &mut [u8],
+    cache: &mut [u8],
+    unit: u32,
+    address: u32,
+    answer: &mut [u32],
+) -> u32
+    ensures { λ r. ⌜ (r ≡ returned (now (directory .entry)) (now (memory .entry)) (now (cache .entry)) (now (answer .entry)) (Load (narrowed unit) address)) × (now (directory .exit) ≡ directoryLeft (now (directory .entry)) (now (memory .entry)) (now (cache .entry)) (now (answer .entry)) (Load (narrowed unit) address)) × (now (memory .exit) ≡ memoryLeft (now (directory .entry)) (now (memory .entry)) (now (cache .entry)) (now (answer .entry)) (Load (narrowed unit) address)) × (now (cache .exit) ≡ cacheLeft (now (directory .entry)) (now (memory .entry)) (now (cache .entry)) (now (answer .entry)) (Load (narrowed unit) address)) × (now (answer .exit) ≡ answerLeft (now (directory .entry)) (now (memory .entry)) (now (cache .entry)) (now (answer .entry)) (Load (narrowed unit) address)) ⌝ }
+{
+    if answer.len() < 18 {
+        return NO_ROOM as u32;
+    }
+    let d = decode(directory);
+    let a = machine::load(d, memory, cache, byte(unit as u64), address);
+    hand_over(a, directory, answer)
+}
+
+// Unit stores value at address.
+#[no_mangle]
+pub extern "C" fn trainer_store(
+    directory: &mut [u8],
+    memory: &mut [u8],
+    cache: &mut [u8],
+    unit: u32,
+    address: u32,
+    value: u32,
+    answer: &mut [u32],
+) -> u32
+    ensures { λ r. ⌜ (r ≡ returned (now (directory .entry)) (now (memory .entry)) (now (cache .entry)) (now (answer .entry)) (Store (narrowed unit) address value)) × (now (directory .exit) ≡ directoryLeft (now (directory .entry)) (now (memory .entry)) (now (cache .entry)) (now (answer .entry)) (Store (narrowed unit) address value)) × (now (memory .exit) ≡ memoryLeft (now (directory .entry)) (now (memory .entry)) (now (cache .entry)) (now (answer .entry)) (Store (narrowed unit) address value)) × (now (cache .exit) ≡ cacheLeft (now (directory .entry)) (now (memory .entry)) (now (cache .entry)) (now (answer .entry)) (Store (narrowed unit) address value)) × (now (answer .exit) ≡ answerLeft (now (directory .entry)) (now (memory .entry)) (now (cache .entry)) (now (answer .entry)) (Store (narrowed unit) address value)) ⌝ }
+{
+    if answer.len() < 18 {
+        return NO_ROOM as u32;
+    }
+    let d = decode(directory);
+    let a = machine::store(d, memory, cache, byte(unit as u64), address, value);
+    hand_over(a, directory, answer)
+}
+
+// Unit flushes block.
+#[no_mangle]
+pub extern "C" fn trainer_flush(
+    directory: &mut [u8],
+    memory: &mut [u8],
+    cache: &[u8],
+    unit: u32,
+    block: u32,
+    answer: &mut [u32],
+) -> u32
+    ensures { λ r. ⌜ (r ≡ returned (now (directory .entry)) (now (memory .entry)) (now (cache .entry)) (now (answer .entry)) (Flush (narrowed unit) (narrowed block))) × (now (directory .exit) ≡ directoryLeft (now (directory .entry)) (now (memory .entry)) (now (cache .entry)) (now (answer .entry)) (Flush (narrowed unit) (narrowed block))) × (now (memory .exit) ≡ memoryLeft (now (directory .entry)) (now (memory .entry)) (now (cache .entry)) (now (answer .entry)) (Flush (narrowed unit) (narrowed block))) × (now (answer .exit) ≡ answerLeft (now (directory .entry)) (now (memory .entry)) (now (cache .entry)) (now (answer .entry)) (Flush (narrowed unit) (narrowed block))) ⌝ }
+{
+    if answer.len() < 18 {
+        return NO_ROOM as u32;
+    }
+    let d = decode(directory);
+    let a = machine::flush(d, memory, cache, byte(unit as u64), byte(block as u64));
+    hand_over(a, directory, answer)
+}
+
+// Which store has the newest bytes of block, and where.
+#[no_mangle]
+pub extern "C" fn trainer_peek(
+    directory: &[u8],
+    memory: &[u8],
+    cache: &[u8],
+    block: u32,
+    store: &mut u32,
+    offset: &mut u32,
+) -> u32
+    ensures { λ r. ⌜ (r ≡ peekReturned (now (directory .entry)) (now (memory .entry)) (now (cache .entry)) block) × (now (store .exit) ≡ storeLeft (now (directory .entry)) (now (memory .entry)) (now (cache .entry)) block (now (store .entry))) × (now (offset .exit) ≡ offsetLeft (now (directory .entry)) (now (memory .entry)) (now (cache .entry)) block (now (offset .entry))) ⌝ }
+{
+    let d = decode(directory);
+    let b = byte(block as u64);
+    let refusal = machine::peek_refusal(d, memory, cache, b);
+    if refusal != 0 {
+        return refusal as u32;
+    }
+    let newest = place_of(d, b);
+    *store = newest.store;
+    *offset = newest.offset;
+    0
+}

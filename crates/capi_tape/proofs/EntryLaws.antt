@@ -1,0 +1,51 @@
+-- What reading and writing a record through the C interface answer and leave, for each answer of the tape's own functions.
+use mathlib.Core.Path.{_≡_, refl}
+use mathlib.Core.Bool.{true, false}
+use mathlib.Core.List.{List, _++_}
+use Prim.Native.Nat.{ℕ, _≤_, _<_}
+use lib.Dec.{leb}
+use lib.ListN.{length, drop}
+use borrow.Author.Tests.{le-leb, lt-leb}
+use Rattle.tape.specs.declared.record.Record.{Record}
+use Rattle.tape.specs.declared.record.RecordRead.the-variants as read
+use Rattle.tape.specs.declared.write.Written.{Written}
+use Rattle.tape.specs.Record.{recordAt, recordTold, kindOf, fieldsOf}
+use Rattle.tape.specs.Write.{writtenOf, writtenRefusal, spaceAfter}
+use Rattle.capi_tape.specs.declared.entry.RecordFound.{RecordFound}
+use Rattle.capi_tape.specs.declared.entry.RecordFound.the-variants as found
+use Rattle.capi_tape.specs.Entry.{recordNumbers, filled, readReturned, numbersLeft, nextLeft, writeReturned, spaceLeft, countOr, writtenLeft}
+
+module _ (tape s : List ℕ) (at n : ℕ) where
+  -- no room for the numbers
+  pub read-short : length s < 7 → (9 ≡ readReturned tape at s) × (n ≡ nextLeft tape at s n) × (s ≡ numbersLeft tape at s)
+  unfolding readReturned nextLeft numbersLeft
+  read-short h = let e : leb 7 (length s) ≡ false = lt-leb 7 (length s) h in (rw e, rw e, rw e)
+
+  pub read-some : (r : Record) (next : ℕ) (s′ : List ℕ) → 7 ≤ length s → recordAt tape at ≡ read.Record r next → s′ ≡ recordNumbers r ++ drop 7 s
+      → (0 ≡ readReturned tape at s) × (next ≡ nextLeft tape at s n) × (s′ ≡ numbersLeft tape at s)
+  unfolding readReturned nextLeft numbersLeft recordTold filled recordNumbers
+  read-some r next s′ h q t =
+      let e : leb 7 (length s) ≡ true = le-leb 7 (length s) h in
+      (rw (e, q), rw (e, q), rw (e, q) t)
+
+  pub read-end : 7 ≤ length s → recordAt tape at ≡ read.Finished
+      → (0 ≡ readReturned tape at s) × (at ≡ nextLeft tape at s n) × (s ≡ numbersLeft tape at s)
+  unfolding readReturned nextLeft numbersLeft recordTold filled
+  read-end h q = let e : leb 7 (length s) ≡ true = le-leb 7 (length s) h in (rw (e, q), rw (e, q), rw (e, q))
+
+  pub read-refused : (number place : ℕ) → 7 ≤ length s → recordAt tape at ≡ read.Refused number place
+      → (number ≡ readReturned tape at s) × (place ≡ nextLeft tape at s n) × (s ≡ numbersLeft tape at s)
+  unfolding readReturned nextLeft numbersLeft recordTold filled
+  read-refused number place h q =
+      let e : leb 7 (length s) ≡ true = le-leb 7 (length s) h in (rw (e, q), rw (e, q), rw (e, q))
+
+-- the numbers named a record, and the tape's function wrote it or refused
+pub write-known : (f : RecordFound) (r : Record) (s s′ : List ℕ) (w : ℕ) (x : Written) → f ≡ found.Known r → x ≡ writtenOf r (length s) → s′ ≡ spaceAfter r s
+    → (writtenRefusal x ≡ writeReturned f s) × (s′ ≡ spaceLeft f s) × (countOr x w ≡ writtenLeft f s w)
+unfolding writeReturned spaceLeft writtenLeft
+write-known f r s s′ w x e q t = (rw (e, q), rw e t, rw (e, q))
+
+pub write-refused : (f : RecordFound) (number : ℕ) (s : List ℕ) (w : ℕ) → f ≡ found.Refused number
+    → (number ≡ writeReturned f s) × (s ≡ spaceLeft f s) × (w ≡ writtenLeft f s w)
+unfolding writeReturned spaceLeft writtenLeft
+write-refused f number s w e = (rw e, rw e, rw e)

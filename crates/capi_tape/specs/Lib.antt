@@ -1,0 +1,2 @@
+-- What crosses between the tape and a program in another language.
+pub mod Entry

@@ -1,0 +1,198 @@
+// A tape's record as seven numbers: its kind, its fields, and 0 behind them.
+use crossing::byte;
+use crossing::word;
+use order::CommandFound;
+use order::FIELD_RANGE;
+use order::Order;
+use order::UNKNOWN_KIND;
+use order::command_number;
+use order::command_of;
+use order::flag_number;
+use tape::Record;
+ghost use mathlib.Core.Path.{_≡_};
+ghost use mathlib.Core.List.{[], _∷_, _++_};
+ghost use Prim.Native.Nat.{_≤_};
+ghost use lib.ListN.{length, drop};
+ghost use Rattle.capi_tape.specs.Entry.{recordSize, recordNumbers, storeFrom, orderFrom, answerFrom, registerFrom, loadedFrom, recordFrom};
+
+// The record that seven numbers name, or the number of the refusal.
+pub(crate) enum RecordFound {
+    Known(Record),
+    Refused(u8),
+}
+
+fn put_seven(out: &mut [u64], kind: u64, a: u64, b: u64, c: u64, d: u64, e: u64, f: u64)
+    requires { ⌜ recordSize ≤ length (now out) ⌝ }
+    ensures { λ _. ⌜ now (out .exit) ≡ (kind ∷ a ∷ b ∷ c ∷ d ∷ e ∷ f ∷ []) ++ drop recordSize (now (out .entry)) ⌝ }
+{
+    out[0] = kind;
+    out[1] = a;
+    out[2] = b;
+    out[3] = c;
+    out[4] = d;
+    out[5] = e;
+    out[6] = f;
+}
+
+fn put_order(out: &mut [u64], o: Order)
+    requires { ⌜ recordSize ≤ length (now out) ⌝ }
+    ensures { λ _. ⌜ now (out .exit) ≡ recordNumbers (Record.Order o) ++ drop recordSize (now (out .entry)) ⌝ }
+{
+    let command = o.command;
+    let number = command_number(command);
+    let retried = flag_number(o.retried);
+    put_seven(
+        out,
+        3,
+        o.unit as u64,
+        number as u64,
+        o.block as u64,
+        retried,
+        0,
+        0,
+    );
+}
+
+// A record's numbers, into the first places of the lent space.
+pub(crate) fn put_record(r: Record, out: &mut [u64])
+    requires { ⌜ recordSize ≤ length (now out) ⌝ }
+    ensures { λ _. ⌜ now (out .exit) ≡ recordNumbers r ++ drop recordSize (now (out .entry)) ⌝ }
+{
+    match r {
+        Record::Load(u, a) => put_seven(out, 0, u as u64, a as u64, 0, 0, 0, 0),
+        Record::Store(u, a, v) => put_seven(out, 1, u as u64, a as u64, v as u64, 0, 0, 0),
+        Record::Flush(u, b) => put_seven(out, 2, u as u64, b as u64, 0, 0, 0, 0),
+        Record::Order(o) => put_order(out, o),
+        Record::Answer {
+            from,
+            to,
+            aid,
+            code,
+        } => put_seven(
+            out,
+            4,
+            from as u64,
+            to as u64,
+            aid as u64,
+            code as u64,
+            0,
+            0,
+        ),
+        Record::Register {
+            from,
+            to,
+            aid,
+            write,
+            ra,
+            bct,
+        } => {
+            put_seven(
+                out,
+                5,
+                from as u64,
+                to as u64,
+                aid as u64,
+                flag_number(write),
+                ra as u64,
+                bct as u64,
+            )
+        }
+        Record::Loaded(u, v) => put_seven(out, 6, u as u64, v as u64, 0, 0, 0, 0),
+    }
+}
+
+fn store_from(unit: u64, address: u64, value: u64) -> RecordFound
+    ensures { λ r. ⌜ r ≡ storeFrom unit address value ⌝ }
+{
+    if value <= 4294967295 {
+        return RecordFound::Known(Record::Store(byte(unit), word(address), value as u32));
+    }
+    RecordFound::Refused(FIELD_RANGE)
+}
+
+fn order_from(unit: u64, command: u64, block: u64, retried: u64) -> RecordFound
+    ensures { λ r. ⌜ r ≡ orderFrom unit command block retried ⌝ }
+{
+    if retried > 1 {
+        return RecordFound::Refused(FIELD_RANGE);
+    }
+    match command_of(command) {
+        CommandFound::Known(given) => {
+            RecordFound::Known(Record::Order(Order {
+                unit: byte(unit),
+                command: given,
+                block: byte(block),
+                retried: retried == 1,
+            }))
+        }
+        CommandFound::Unknown => RecordFound::Refused(FIELD_RANGE),
+    }
+}
+
+fn answer_from(from: u64, to: u64, aid: u64, code: u64) -> RecordFound
+    ensures { λ r. ⌜ r ≡ answerFrom from to aid code ⌝ }
+{
+    if aid <= 255 {
+        if code <= 255 {
+            return RecordFound::Known(Record::Answer {
+                from: byte(from),
+                to: byte(to),
+                aid: aid as u8,
+                code: code as u8,
+            });
+        }
+    }
+    RecordFound::Refused(FIELD_RANGE)
+}
+
+fn register_from(from: u64, to: u64, aid: u64, write: u64, ra: u64, bct: u64) -> RecordFound
+    ensures { λ r. ⌜ r ≡ registerFrom from to aid write ra bct ⌝ }
+{
+    if aid <= 255 {
+        if write <= 1 {
+            if ra <= 4294967295 {
+                return RecordFound::Known(Record::Register {
+                    from: byte(from),
+                    to: byte(to),
+                    aid: aid as u8,
+                    write: write == 1,
+                    ra: ra as u32,
+                    bct: byte(bct),
+                });
+            }
+        }
+    }
+    RecordFound::Refused(FIELD_RANGE)
+}
+
+fn loaded_from(unit: u64, value: u64) -> RecordFound
+    ensures { λ r. ⌜ r ≡ loadedFrom unit value ⌝ }
+{
+    if value <= 4294967295 {
+        return RecordFound::Known(Record::Loaded(byte(unit), value as u32));
+    }
+    RecordFound::Refused(FIELD_RANGE)
+}
+
+pub(crate) fn record_from(numbers: &[u64]) -> RecordFound
+    ensures { λ r. ⌜ r ≡ recordFrom (now (numbers .entry)) ⌝ }
+{
+    if numbers.len() != 7 {
+        return RecordFound::Refused(FIELD_RANGE);
+    }
+    let kind = numbers[0];
+    let a = numbers[1];
+    let b = numbers[2];
+    let c = numbers[3];
+    let d = numbers[4];
+    match kind {
+        0 => RecordFound::Known(Record::Load(byte(a), word(b))),
+        1 => store_from(a, b, c),
+        2 => RecordFound::Known(Record::Flush(byte(a), byte(b))),
+        3 => order_from(a, b, c, d),
+        4 => answer_from(a, b, c, d),
+        5 => register_from(a, b, c, d, numbers[5], numbers[6]),
+        6 => loaded_from(a, b),
+        _ => RecordFound::Refused(UNKNOWN_KIND),
+    }
+}

@@ -1,0 +1,63 @@
+// The tape for programs in other languages: `include/trainer.h` declares these functions. Slices cross as pointer and length, all else as numbers.
+// Each function is total, and a refused call writes nothing but what its contract says.
+mod entry;
+
+use entry::RecordFound;
+use entry::put_record;
+use entry::record_from;
+use order::NO_ROOM;
+use tape::RecordRead;
+use tape::Written;
+ghost use mathlib.Core.Path.{_≡_};
+ghost use Rattle.capi_tape.specs.Entry.{recordFrom, readReturned, numbersLeft, nextLeft, writeReturned, spaceLeft, writtenLeft};
+
+// Reads the record at a place of the tape.
+#[no_mangle]
+pub extern "C" fn trainer_read_record(
+    tape: &[u8],
+    place: usize,
+    next: &mut usize,
+    numbers: &mut [u64],
+) -> u32
+    ensures { λ r. ⌜ (r ≡ readReturned (now (tape .entry)) place (now (numbers .entry))) × (now (next .exit) ≡ nextLeft (now (tape .entry)) place (now (numbers .entry)) (now (next .entry))) × (now (numbers .exit) ≡ numbersLeft (now (tape .entry)) place (now (numbers .entry))) ⌝ }
+{
+    if numbers.len() < 7 {
+        return NO_ROOM as u32;
+    }
+    match tape::read_record(tape, place) {
+        RecordRead::Record(r, after) => {
+            put_record(r, numbers);
+            *next = after;
+            0
+        }
+        RecordRead::Finished => {
+            *next = place;
+            0
+        }
+        RecordRead::Refused(number, at) => {
+            *next = at;
+            number as u32
+        }
+    }
+}
+
+// Writes the record that seven numbers name.
+#[no_mangle]
+pub extern "C" fn trainer_write_record(
+    numbers: &[u64],
+    space: &mut [u8],
+    written: &mut usize,
+) -> u32
+    ensures { λ r. ⌜ (r ≡ writeReturned (recordFrom (now (numbers .entry))) (now (space .entry))) × (now (space .exit) ≡ spaceLeft (recordFrom (now (numbers .entry))) (now (space .entry))) × (now (written .exit) ≡ writtenLeft (recordFrom (now (numbers .entry))) (now (space .entry)) (now (written .entry))) ⌝ }
+{
+    match record_from(numbers) {
+        RecordFound::Known(r) => match tape::write_record(r, space) {
+            Written::Bytes(count) => {
+                *written = count;
+                0
+            }
+            Written::Refused(number) => number as u32,
+        },
+        RecordFound::Refused(number) => number as u32,
+    }
+}

@@ -1,0 +1,614 @@
+-- The definitions of the accesses say document 01's sentences.
+use mathlib.Core.Path.{_≡_, refl, sym, ap, _∙_}
+use mathlib.Core.List.{List, [], _∷_, _++_}
+use mathlib.Core.Bool.{Bool, true, false, cond, not, _&&_, false≢true}
+use mathlib.Core.Logic.{_⊎_, inl, inr, ⊎-elim}
+use Prim.Native.Nat.{ℕ, _+_, _*_, _/_, _%_, _≤_, _<_}
+use native.Mathlib.Omega.{arith}
+use lib.ListN.{length}
+use lib.Dec.{ltb, eqb}
+use borrow.Author.Tests.{leb-true, eqb-true, eq-eqb, ne-eqb, lt-ltb, le-ltb}
+use Rattle.order.specs.declared.Command.{Command}
+use Rattle.order.specs.declared.Command.the-variants.{Read, ModifiedRead, Invalidate, Copyback}
+use Rattle.order.specs.declared.Order.{Order}
+use Rattle.coherence.specs.declared.Slot.{Slot}
+use Rattle.coherence.specs.declared.Slot.the-variants.{Invalid, Shared, Modified}
+use Rattle.coherence.specs.declared.Directory.{Directory}
+use Rattle.coherence.specs.declared.Call.{Call}
+use Rattle.coherence.specs.declared.Call.the-variants.{Load, Store, Flush}
+use Rattle.coherence.specs.Bytes.{blockAt, putBlock, wordAt, putWord}
+use Rattle.coherence.specs.Slots.{place, slotAt, holds, modified, ownerOf, sound}
+use Rattle.coherence.specs.Access.{Run, ready, give, mark, writeBack, copyback, emptied, empty, yield, ask, fill, fetch, eachUnit, expel, claim, cachePlace, write, load, own, store, flush}
+use Rattle.coherence.specs.Refusal.{sized, isUnit, isBlock, startRefusal, peekRefusal}
+use Rattle.coherence.specs.Calls.{unitOf, isTarget, refusal, act, loaded, after, valueOf, answer, startAnswer, cacheStarted}
+use Rattle.coherence.specs.Peek.{fromCache, newestBlock, newest, peeked, peekFromCache, peekOffset}
+use Rattle.coherence.specs.Sentences.{by, NoneHasEM, NotEM, Orders, SlotsLoaded, SlotsStored, SlotsFlushed, Leaves, wordPlace, LoadMissed, StoreShared, StoreMissed, FlushHeld, SentencesHold, PeeksHold, StartsHold}
+use Rattle.coherence.proofs.Cases.{eq-or-ne, four}
+use Rattle.coherence.proofs.SlotLaws.{size, size-set, slot-same, slot-other, holds-invalid, modified-holds, shared-holds, holds-is, is-modified, invalid≢modified, shared≢modified, place-lt, place-ne, owner-cases, slot-cold}
+use Rattle.coherence.proofs.Rules.{sound-exclusive}
+use Rattle.coherence.proofs.RefusalLaws.{call-tests, peek-tests}
+
+-- ---- an accepted call
+tests-say : (s t r g : Bool) → _≡_ {A = ℕ} (cond s (cond t (cond r (cond g 0 4) 3) 2) 1) 0 → (t ≡ true) × (r ≡ true)
+tests-say true true true g e = (refl, refl)
+tests-say true true false g e = absurd (omega arith)
+tests-say true false r g e = absurd (omega arith)
+tests-say false t r g e = absurd (omega arith)
+
+accepted-says : (d : Directory) (m k : List ℕ) (c : Call) → refusal d m k c ≡ 0 → (sound d ≡ true) × (unitOf c < 4)
+unfolding refusal isUnit
+accepted-says d m k c e =
+    let q : (sound d ≡ true) × (isUnit (unitOf c) ≡ true) =
+    tests-say (sized m k) (sound d) (isUnit (unitOf c)) (isTarget c) (rw (call-tests d m k (unitOf c) (isTarget c)) at e) in
+    let l : unitOf c ≤ 3 = leb-true (unitOf c) 3 (q .1) in
+    (q .0, omega arith)
+
+acts : (d : Directory) (m k : List ℕ) (c : Call) → refusal d m k c ≡ 0 → after d m k c ≡ act c (ready d m k)
+unfolding after
+acts d m k c e = rw (eq-eqb (refusal d m k c) 0 e) refl
+
+word-place : (u a : ℕ) → cachePlace u a ≡ wordPlace u a
+unfolding cachePlace place
+word-place u a = omega arith
+
+-- ---- a slot is emptied
+module _ (u n : ℕ) (w : Run) where
+  empty-cache : empty u n w .cache ≡ w .cache
+  unfolding empty emptied copyback mark writeBack give
+  empty-cache = go (slotAt (w .directory) n)
+    where
+      go : (x : Slot) → emptied u n x w .cache ≡ w .cache
+      go Invalid = refl
+      go (Shared c) = refl
+      go (Modified c) = refl
+
+  empty-size : size (empty u n w .directory) ≡ size (w .directory)
+  unfolding empty emptied copyback mark writeBack give
+  empty-size = go (slotAt (w .directory) n)
+    where
+      go : (x : Slot) → size (emptied u n x w .directory) ≡ size (w .directory)
+      go Invalid = refl
+      go (Shared c) = size-set _ _ _
+      go (Modified c) = size-set _ _ _ ∙ size-set _ _ _
+
+  empty-other : (j : ℕ) → (j ≡ n → ⊥) → slotAt (empty u n w .directory) j ≡ slotAt (w .directory) j
+  unfolding empty emptied copyback mark writeBack give
+  empty-other j h = go (slotAt (w .directory) n)
+    where
+      go : (x : Slot) → slotAt (emptied u n x w .directory) j ≡ slotAt (w .directory) j
+      go Invalid = refl
+      go (Shared c) = slot-other _ n j _ h
+      go (Modified c) = slot-other _ n j _ h ∙ slot-other _ n j _ h
+
+  empty-own : n < size (w .directory) → slotAt (empty u n w .directory) n ≡ Invalid
+  unfolding empty emptied copyback mark writeBack give
+  empty-own l = go (slotAt (w .directory) n) refl
+    where
+      go : (x : Slot) → slotAt (w .directory) n ≡ x → slotAt (emptied u n x w .directory) n ≡ Invalid
+      go Invalid e = e
+      go (Shared c) e = slot-same _ n _ l
+      go (Modified c) e = slot-same _ n _ (rw (size-set (w .directory) n (Shared c)) l)
+
+  empty-not : NotEM (w .directory) n → (empty u n w .orders ≡ w .orders) × (empty u n w .memory ≡ w .memory)
+  unfolding empty emptied copyback mark writeBack give
+  empty-not h = go (slotAt (w .directory) n) refl
+    where
+      go : (x : Slot) → slotAt (w .directory) n ≡ x → (emptied u n x w .orders ≡ w .orders) × (emptied u n x w .memory ≡ w .memory)
+      go Invalid e = (refl, refl)
+      go (Shared c) e = (refl, refl)
+      go (Modified c) e = absurd (h c e)
+
+  empty-em : (c : ℕ) → slotAt (w .directory) n ≡ Modified c
+      → (empty u n w .orders ≡ w .orders ++ (by u Copyback c false ∷ [])) × (empty u n w .memory ≡ putBlock (w .memory) c (blockAt (w .cache) n))
+  unfolding empty emptied copyback mark writeBack give
+  empty-em c e = rw e (refl, refl)
+
+-- ---- an order for a block
+ask-free : (u : ℕ) (x : Command) (b : ℕ) (w : Run) → NoneHasEM (w .directory) b → ask u x b w ≡ give u x b false w
+unfolding ask yield
+ask-free u x b w h =
+    ⊎-elim
+    (λ q. absurd (h (ownerOf (w .directory) b) (q .0) (q .1)))
+    (λ q. rw (le-ltb (ownerOf (w .directory) b) 4 (q .0)) refl)
+    (owner-cases (w .directory) b)
+
+ask-held : (u : ℕ) (x : Command) (b : ℕ) (w : Run) (v : ℕ) → v < 4 → slotAt (w .directory) (place v b) ≡ Modified b
+    → ((o : ℕ) → o < 4 → slotAt (w .directory) (place o b) ≡ Modified b → o ≡ v)
+    → ask u x b w ≡ give u x b false (copyback v (place v b) b (give u x b true w))
+unfolding ask yield
+ask-held u x b w v l e h =
+    ⊎-elim
+    (λ q. rw (h (ownerOf (w .directory) b) (q .0) (q .1), lt-ltb v 4 l) refl)
+    (λ q. absurd (q .1 v l e))
+    (owner-cases (w .directory) b)
+
+-- an order changes no byte of the caches, and no slot but the holder's
+ask-size : (u : ℕ) (x : Command) (b : ℕ) (w : Run) → size (ask u x b w .directory) ≡ size (w .directory)
+unfolding ask yield copyback mark writeBack give
+ask-size u x b w = go (ltb o 4)
+  where
+    o : ℕ
+    o = ownerOf (w .directory) b
+
+    go : (t : Bool) → size (cond t (copyback o (place o b) b (give u x b true w)) w .directory) ≡ size (w .directory)
+    go true = size-set _ _ _
+    go false = refl
+
+ask-cache : (u : ℕ) (x : Command) (b : ℕ) (w : Run) → ask u x b w .cache ≡ w .cache
+unfolding ask yield copyback mark writeBack give
+ask-cache u x b w = go (ltb o 4)
+  where
+    o : ℕ
+    o = ownerOf (w .directory) b
+
+    go : (t : Bool) → cond t (copyback o (place o b) b (give u x b true w)) w .cache ≡ w .cache
+    go true = refl
+    go false = refl
+
+ask-rest : (u : ℕ) (x : Command) (b : ℕ) (w : Run) (j : ℕ) → (slotAt (w .directory) j ≡ Modified b → ⊥)
+    → slotAt (ask u x b w .directory) j ≡ slotAt (w .directory) j
+unfolding ask yield copyback mark writeBack give
+ask-rest u x b w j h =
+    ⊎-elim
+    (λ q. rw (lt-ltb o 4 (q .0)) (slot-other (w .directory) (place o b) j (Shared b) (λ y. h (ap (slotAt (w .directory)) y ∙ q .1))))
+    (λ q. rw (le-ltb o 4 (q .0)) refl)
+    (owner-cases (w .directory) b)
+  where
+    o : ℕ
+    o = ownerOf (w .directory) b
+
+place-div : (u b : ℕ) → place u b / 16 ≡ u
+unfolding place
+place-div u b = omega arith
+
+-- ---- a block is fetched
+module _ (d : Directory) (m k : List ℕ) (u b : ℕ) (x : Command) (l : u < 4) (z : size d ≡ 64) (s : sound d ≡ true)
+    (f : holds (slotAt d (place u b)) b ≡ false) where
+  abbrev w₁ : Run
+  w₁ = empty u (place u b) (ready d m k)
+
+  own₁ : slotAt (w₁ .directory) (place u b) ≡ Invalid
+  unfolding ready
+  own₁ = empty-own u (place u b) (ready d m k) (rw z (place-lt u b l))
+
+  other₁ : (j : ℕ) → (j ≡ place u b → ⊥) → slotAt (w₁ .directory) j ≡ slotAt d j
+  unfolding ready
+  other₁ j h = empty-other u (place u b) (ready d m k) j h
+
+  size₁ : size (w₁ .directory) ≡ 64
+  unfolding ready
+  size₁ = empty-size u (place u b) (ready d m k) ∙ z
+
+  not-own : (v : ℕ) → slotAt d (place v b) ≡ Modified b → v ≡ u → ⊥
+  not-own v e q = false≢true (sym f ∙ modified-holds (slotAt d (place u b)) b (rw q at e))
+
+  -- EM in w₁ is EM in d
+  before : (v : ℕ) → slotAt (w₁ .directory) (place v b) ≡ Modified b → slotAt d (place v b) ≡ Modified b
+  before v e =
+      ⊎-elim
+      (λ (q : v ≡ u). absurd (invalid≢modified b (sym own₁ ∙ (rw q at e))))
+      (λ q. sym (other₁ (place v b) (λ y. place-ne u v b q (sym y))) ∙ e)
+      (eq-or-ne v u)
+
+  away : (v : ℕ) → slotAt d (place v b) ≡ Modified b → place v b ≡ place u b → ⊥
+  away v e y = place-ne u v b (not-own v e) (sym y)
+
+  asked-free : NoneHasEM d b → ask u x b w₁ ≡ give u x b false w₁
+  asked-free h = ask-free u x b w₁ (λ v g e. h v g (before v e))
+
+  asked-held : (v : ℕ) → v < 4 → slotAt d (place v b) ≡ Modified b
+      → ask u x b w₁ ≡ give u x b false (copyback v (place v b) b (give u x b true w₁))
+  asked-held v g e =
+      ask-held u x b w₁ v g (other₁ (place v b) (away v e) ∙ e)
+      (λ o h y.
+      sym (place-div o b)
+      ∙ sound-exclusive d (place o b) (place v b) b s (place-lt o b h) (place-lt v b g) (before o y) (modified-holds _ b e)
+      ∙ place-div v b)
+
+  cache₁ : w₁ .cache ≡ k
+  unfolding ready
+  cache₁ = empty-cache u (place u b) (ready d m k)
+
+  not₁ : NotEM d (place u b) → (w₁ .orders ≡ []) × (w₁ .memory ≡ m)
+  unfolding ready
+  not₁ h = empty-not u (place u b) (ready d m k) h
+
+  em₁ : (c : ℕ) → slotAt d (place u b) ≡ Modified c → (w₁ .orders ≡ by u Copyback c false ∷ []) × (w₁ .memory ≡ putBlock m c (blockAt k (place u b)))
+  unfolding ready
+  em₁ c e = empty-em u (place u b) (ready d m k) c e
+
+  free-then : (os : List Order) (n : List ℕ) → (w₁ .orders ≡ os) × (w₁ .memory ≡ n) → NoneHasEM d b
+      → (ask u x b w₁ .orders ≡ os ++ (by u x b false ∷ [])) × (ask u x b w₁ .memory ≡ n)
+  unfolding give
+  free-then os n q h = rw (asked-free h) (ap (λ (o : List Order). o ++ (by u x b false ∷ [])) (q .0), q .1)
+
+  held-then : (os : List Order) (n : List ℕ) → (w₁ .orders ≡ os) × (w₁ .memory ≡ n) → (v : ℕ) → v < 4 → slotAt d (place v b) ≡ Modified b
+      → (ask u x b w₁ .orders ≡ ((os ++ (by u x b true ∷ [])) ++ (by v Copyback b false ∷ [])) ++ (by u x b false ∷ []))
+      × (ask u x b w₁ .memory ≡ putBlock n b (blockAt k (place v b)))
+  unfolding give copyback mark writeBack
+  held-then os n q v g e =
+      rw (asked-held v g e) (
+        ap (λ (o : List Order). ((o ++ (by u x b true ∷ [])) ++ (by v Copyback b false ∷ [])) ++ (by u x b false ∷ [])) (q .0),
+        ap (λ (r : List ℕ). putBlock r b (blockAt (w₁ .cache) (place v b))) (q .1)
+            ∙ ap (λ (r : List ℕ). putBlock n b (blockAt r (place v b))) cache₁,
+      )
+
+  fetch-orders : Orders d m k u b x (fetch u x b (ready d m k) .orders) (fetch u x b (ready d m k) .memory)
+  unfolding fetch fill
+  fetch-orders =
+      record {
+        alone = λ h g. free-then [] m (not₁ h) g;
+        evicts = λ c e g. free-then _ _ (em₁ c e) g;
+        retried = λ h v g e. held-then [] m (not₁ h) v g e;
+        both = λ c y v g e. held-then _ _ (em₁ c y) v g e;
+      }
+
+  held-slot : (v : ℕ) → v < 4 → slotAt d (place v b) ≡ Modified b → slotAt (ask u x b w₁ .directory) (place v b) ≡ Shared b
+  unfolding give copyback mark writeBack
+  held-slot v g e = rw (asked-held v g e) (slot-same (w₁ .directory) (place v b) (Shared b) (rw size₁ (place-lt v b g)))
+
+  rest₁ : (n : ℕ) → (n ≡ place u b → ⊥) → (slotAt d n ≡ Modified b → ⊥) → slotAt (ask u x b w₁ .directory) n ≡ slotAt d n
+  rest₁ n h g = ask-rest u x b w₁ n (λ y. g (sym (other₁ n h) ∙ y)) ∙ other₁ n h
+
+  fetch-slots : SlotsLoaded d u b (fetch u x b (ready d m k) .directory)
+  unfolding fetch fill
+  fetch-slots =
+      record {
+        own = slot-same _ (place u b) (Shared b) (rw (ask-size u x b w₁, size₁) (place-lt u b l));
+        holder = λ v g e. slot-other _ (place u b) (place v b) (Shared b) (away v e) ∙ held-slot v g e;
+        rest = λ n h g. slot-other _ (place u b) n (Shared b) h ∙ rest₁ n h g;
+      }
+
+  fetch-size : size (fetch u x b (ready d m k) .directory) ≡ 64
+  unfolding fetch fill
+  fetch-size = size-set _ _ _ ∙ ask-size u x b w₁ ∙ size₁
+
+  fetch-cache : fetch u x b (ready d m k) .cache ≡ putBlock k (place u b) (blockAt (fetch u x b (ready d m k) .memory) b)
+  unfolding fetch fill
+  fetch-cache = ap (λ (r : List ℕ). putBlock r (place u b) (blockAt (ask u x b w₁ .memory) b)) (ask-cache u x b w₁ ∙ cache₁)
+
+-- ---- a block is claimed
+-- each slot is as it was, or is invalid and held block b
+pub record Expelled (b : ℕ) (w w′ : Run) : Type 0 where
+  pub orders : w′ .orders ≡ w .orders
+  pub memory : w′ .memory ≡ w .memory
+  pub cache : w′ .cache ≡ w .cache
+  pub sizes : size (w′ .directory) ≡ size (w .directory)
+  pub drops : (j : ℕ) → (slotAt (w′ .directory) j ≡ slotAt (w .directory) j)
+      ⊎ ((slotAt (w′ .directory) j ≡ Invalid) × (holds (slotAt (w .directory) j) b ≡ true))
+
+expelled-none : (b : ℕ) (w : Run) → Expelled b w w
+expelled-none b w = record { orders = refl; memory = refl; cache = refl; sizes = refl; drops = λ j. inl refl }
+
+not-held : (b : ℕ) (x : Slot) → x ≡ Invalid → holds x b ≡ true → ⊥
+not-held b x e t = false≢true (sym (holds-invalid b) ∙ (rw e at t))
+
+expelled-then : (b : ℕ) (w w′ w″ : Run) → Expelled b w w′ → Expelled b w′ w″ → Expelled b w w″
+expelled-then b w w′ w″ g h =
+    record {
+      orders = h .orders ∙ g .orders;
+      memory = h .memory ∙ g .memory;
+      cache = h .cache ∙ g .cache;
+      sizes = h .sizes ∙ g .sizes;
+      drops = λ j. ⊎-elim
+          (λ p. ⊎-elim (λ q. inl (p ∙ q)) (λ q. inr (p ∙ q .0, q .1)) (g .drops j))
+          (λ p. ⊎-elim
+          (λ q. inr (p .0, ap (λ (y : Slot). holds y b) (sym q) ∙ p .1))
+          (λ q. absurd (not-held b _ (q .0) (p .1)))
+          (g .drops j))
+          (h .drops j);
+    }
+
+-- what was gone stays gone
+still-gone : (b : ℕ) (w w′ : Run) (j : ℕ) → Expelled b w w′ → (holds (slotAt (w .directory) j) b ≡ true → ⊥)
+    → holds (slotAt (w′ .directory) j) b ≡ true → ⊥
+still-gone b w w′ j g h t =
+    ⊎-elim (λ p. h (ap (λ (y : Slot). holds y b) (sym p) ∙ t)) (λ p. not-held b _ (p .0) t) (g .drops j)
+
+expel-does : (u b v : ℕ) (w : Run) → v < 4 → size (w .directory) ≡ 64
+    → Expelled b w (expel u b v w) × ((v ≡ u → ⊥) → holds (slotAt (expel u b v w .directory) (place v b)) b ≡ true → ⊥)
+unfolding expel mark
+expel-does u b v w l z = go (eqb v u) (holds (slotAt (w .directory) (place v b)) b) refl refl
+  where
+    n : ℕ
+    n = place v b
+
+    to : Bool → Run
+    to t = cond t (mark n Invalid w) w
+
+    same : slotAt (mark n Invalid w .directory) n ≡ Invalid
+    same = slot-same (w .directory) n Invalid (rw z (place-lt v b l))
+
+    go : (s t : Bool) → eqb v u ≡ s → holds (slotAt (w .directory) n) b ≡ t
+        → Expelled b w (to (not s && t)) × ((v ≡ u → ⊥) → holds (slotAt (to (not s && t) .directory) n) b ≡ true → ⊥)
+    go true t f g = (expelled-none b w, λ q h. q (eqb-true v u f))
+    go false false f g = (expelled-none b w, λ q h. false≢true (sym g ∙ h))
+    go false true f g = (
+      record {
+        orders = refl;
+        memory = refl;
+        cache = refl;
+        sizes = size-set (w .directory) n Invalid;
+        drops = λ j. ⊎-elim
+            (λ (q : j ≡ n). inr (ap (slotAt (mark n Invalid w .directory)) q ∙ same, rw q g))
+            (λ q. inl (slot-other (w .directory) n j Invalid q))
+            (eq-or-ne j n);
+      },
+      λ q h. not-held b _ same h,
+    )
+
+each-does : (u b : ℕ) (w : Run) → size (w .directory) ≡ 64
+    → Expelled b w (eachUnit (expel u b) w)
+    × ((v : ℕ) → v < 4 → (v ≡ u → ⊥) → holds (slotAt (eachUnit (expel u b) w .directory) (place v b)) b ≡ true → ⊥)
+unfolding eachUnit
+each-does u b w z =
+    let v₁ : Run = expel u b 0 w in
+    let v₂ : Run = expel u b 1 v₁ in
+    let v₃ : Run = expel u b 2 v₂ in
+    let v₄ : Run = expel u b 3 v₃ in
+    let g₁ : Expelled b w v₁ × ((0 ≡ u → ⊥) → holds (slotAt (v₁ .directory) (place 0 b)) b ≡ true → ⊥) = expel-does u b 0 w (omega arith) z in
+    let z₁ : size (v₁ .directory) ≡ 64 = g₁ .0 .sizes ∙ z in
+    let g₂ : Expelled b v₁ v₂ × ((1 ≡ u → ⊥) → holds (slotAt (v₂ .directory) (place 1 b)) b ≡ true → ⊥) = expel-does u b 1 v₁ (omega arith) z₁ in
+    let z₂ : size (v₂ .directory) ≡ 64 = g₂ .0 .sizes ∙ z₁ in
+    let g₃ : Expelled b v₂ v₃ × ((2 ≡ u → ⊥) → holds (slotAt (v₃ .directory) (place 2 b)) b ≡ true → ⊥) = expel-does u b 2 v₂ (omega arith) z₂ in
+    let z₃ : size (v₃ .directory) ≡ 64 = g₃ .0 .sizes ∙ z₂ in
+    let g₄ : Expelled b v₃ v₄ × ((3 ≡ u → ⊥) → holds (slotAt (v₄ .directory) (place 3 b)) b ≡ true → ⊥) = expel-does u b 3 v₃ (omega arith) z₃ in
+    let h₃ : Expelled b v₂ v₄ = expelled-then b v₂ v₃ v₄ (g₃ .0) (g₄ .0) in
+    let h₂ : Expelled b v₁ v₄ = expelled-then b v₁ v₂ v₄ (g₂ .0) h₃ in (
+      expelled-then b w v₁ v₄ (g₁ .0) h₂,
+      λ v l.
+          four (λ i. (i ≡ u → ⊥) → holds (slotAt (v₄ .directory) (place i b)) b ≡ true → ⊥)
+          (λ q. still-gone b v₁ v₄ (place 0 b) h₂ (g₁ .1 q))
+          (λ q. still-gone b v₂ v₄ (place 1 b) h₃ (g₂ .1 q))
+          (λ q. still-gone b v₃ v₄ (place 2 b) (g₄ .0) (g₃ .1 q))
+          (g₄ .1) v l,
+    )
+
+claim-does : (u b : ℕ) (w : Run) → size (w .directory) ≡ 64
+    → (claim u b w .orders ≡ w .orders) × (claim u b w .memory ≡ w .memory) × (claim u b w .cache ≡ w .cache)
+unfolding claim mark
+claim-does u b w z = let g : Expelled b w (eachUnit (expel u b) w) = each-does u b w z .0 in (g .orders, g .memory, g .cache)
+
+-- the slots after a claim, where w has block b wherever d has it, and all else but u's slot as d
+claim-slots : (d : Directory) (u b : ℕ) (w : Run) → u < 4 → size (w .directory) ≡ 64
+    → ((v : ℕ) → v < 4 → (v ≡ u → ⊥) → holds (slotAt d (place v b)) b ≡ true → holds (slotAt (w .directory) (place v b)) b ≡ true)
+    → ((n : ℕ) → (n ≡ place u b → ⊥) → holds (slotAt d n) b ≡ false → slotAt (w .directory) n ≡ slotAt d n)
+    → SlotsStored d u b (claim u b w .directory)
+unfolding claim mark
+claim-slots d u b w l z held kept =
+    let v₁ : Run = eachUnit (expel u b) w in
+    let g : Expelled b w v₁ × ((v : ℕ) → v < 4 → (v ≡ u → ⊥) → holds (slotAt (v₁ .directory) (place v b)) b ≡ true → ⊥) = each-does u b w z in
+    record {
+      own = slot-same (v₁ .directory) (place u b) (Modified b) (rw (g .0 .sizes, z) (place-lt u b l));
+      others = λ v h q t.
+          slot-other (v₁ .directory) (place u b) (place v b) (Modified b) (λ y. place-ne u v b q (sym y))
+          ∙ ⊎-elim
+          (λ p. absurd (g .1 v h q (ap (λ (y : Slot). holds y b) p ∙ held v h q t)))
+          (λ p. p .0)
+          (g .0 .drops (place v b));
+      rest = λ n q f.
+          slot-other (v₁ .directory) (place u b) n (Modified b) q
+          ∙ ⊎-elim
+          (λ p. p ∙ kept n q f)
+          (λ p. absurd (false≢true (sym f ∙ ap (λ (y : Slot). holds y b) (sym (kept n q f)) ∙ p .1)))
+          (g .0 .drops n);
+    }
+
+-- ---- the accesses
+module _ (d : Directory) (m k : List ℕ) (z : size d ≡ 64) where
+  load-held : (u a : ℕ) → refusal d m k (Load u a) ≡ 0 → holds (slotAt d (place u (a / 32))) (a / 32) ≡ true
+      → Leaves d m [] k (after d m k (Load u a))
+  unfolding act load ready
+  load-held u a r e = rw (acts d m k (Load u a) r, e) (record { orders = refl; directory = refl; memory = refl; cache = refl })
+
+  misses : (u a : ℕ) → holds (slotAt d (place u (a / 32))) (a / 32) ≡ false → act (Load u a) (ready d m k) ≡ fetch u Read (a / 32) (ready d m k)
+  unfolding act load ready
+  misses u a e = rw e refl
+
+  load-missed : (u a : ℕ) → refusal d m k (Load u a) ≡ 0 → holds (slotAt d (place u (a / 32))) (a / 32) ≡ false
+      → LoadMissed d m k u (a / 32) (after d m k (Load u a))
+  unfolding unitOf
+  load-missed u a r e =
+      let q : (sound d ≡ true) × (u < 4) = accepted-says d m k (Load u a) r in
+      rw (acts d m k (Load u a) r, misses u a e)
+      (record {
+        orders = fetch-orders d m k u (a / 32) Read (q .1) z (q .0) e;
+        slots = fetch-slots d m k u (a / 32) Read (q .1) z (q .0) e;
+        cache = fetch-cache d m k u (a / 32) Read (q .1) z (q .0) e;
+      })
+
+  store-modified : (u a v : ℕ) → refusal d m k (Store u a v) ≡ 0 → slotAt d (place u (a / 32)) ≡ Modified (a / 32)
+      → Leaves d m [] (putWord k (wordPlace u a) v) (after d m k (Store u a v))
+  unfolding act store own write ready
+  store-modified u a v r e =
+      rw (acts d m k (Store u a v) r, is-modified (slotAt d (place u (a / 32))) (a / 32) e)
+      (record { orders = refl; directory = refl; memory = refl; cache = ap (λ (p : ℕ). putWord k p v) (word-place u a) })
+
+  not-modified : (u b : ℕ) → slotAt d (place u b) ≡ Shared b → modified (slotAt d (place u b)) b ≡ false
+  unfolding modified
+  not-modified u b e = rw e refl
+
+  missed-modified : (u b : ℕ) → holds (slotAt d (place u b)) b ≡ false → modified (slotAt d (place u b)) b ≡ false
+  unfolding modified holds
+  missed-modified u b e = go (slotAt d (place u b)) e
+    where
+      go : (x : Slot) → holds x b ≡ false → modified x b ≡ false
+      go Invalid f = refl
+      go (Shared c) f = refl
+      go (Modified c) f = f
+
+  shares : (u a v : ℕ) → slotAt d (place u (a / 32)) ≡ Shared (a / 32)
+      → act (Store u a v) (ready d m k) ≡ write u a v (claim u (a / 32) (give u Invalidate (a / 32) false (ready d m k)))
+  unfolding act store own ready
+  shares u a v e = rw (not-modified u (a / 32) e, shared-holds (slotAt d (place u (a / 32))) (a / 32) e) refl
+
+  store-shared : (u a v : ℕ) → refusal d m k (Store u a v) ≡ 0 → slotAt d (place u (a / 32)) ≡ Shared (a / 32)
+      → StoreShared d m k u a v (after d m k (Store u a v))
+  unfolding unitOf write give ready
+  store-shared u a v r e =
+      let b : ℕ = a / 32 in
+      let w : Run = give u Invalidate b false (ready d m k) in
+      let q : (sound d ≡ true) × (u < 4) = accepted-says d m k (Store u a v) r in
+      let c : (claim u b w .orders ≡ w .orders) × (claim u b w .memory ≡ w .memory) × (claim u b w .cache ≡ w .cache) = claim-does u b w z in
+      rw (acts d m k (Store u a v) r, shares u a v e)
+      (record {
+        orders = c .0;
+        slots = claim-slots d u b w (q .1) z (λ x h y t. t) (λ n h t. refl);
+        memory = c .1;
+        cache = ap (λ (x : List ℕ). putWord x (cachePlace u a) v) (c .2) ∙ ap (λ (p : ℕ). putWord k p v) (word-place u a);
+      })
+
+  fetches : (u a v : ℕ) → holds (slotAt d (place u (a / 32))) (a / 32) ≡ false
+      → act (Store u a v) (ready d m k) ≡ write u a v (claim u (a / 32) (fetch u ModifiedRead (a / 32) (ready d m k)))
+  unfolding act store own ready
+  fetches u a v e = rw (missed-modified u (a / 32) e, e) refl
+
+  store-missed : (u a v : ℕ) → refusal d m k (Store u a v) ≡ 0 → holds (slotAt d (place u (a / 32))) (a / 32) ≡ false
+      → StoreMissed d m k u a v (after d m k (Store u a v))
+  unfolding unitOf write
+  store-missed u a v r e =
+      let b : ℕ = a / 32 in
+      let w : Run = fetch u ModifiedRead b (ready d m k) in
+      let q : (sound d ≡ true) × (u < 4) = accepted-says d m k (Store u a v) r in
+      let y : size (w .directory) ≡ 64 = fetch-size d m k u b ModifiedRead (q .1) z (q .0) e in
+      let s : SlotsLoaded d u b (w .directory) = fetch-slots d m k u b ModifiedRead (q .1) z (q .0) e in
+      let o : Orders d m k u b ModifiedRead (w .orders) (w .memory) = fetch-orders d m k u b ModifiedRead (q .1) z (q .0) e in
+      let h : w .cache ≡ putBlock k (place u b) (blockAt (w .memory) b) = fetch-cache d m k u b ModifiedRead (q .1) z (q .0) e in
+      let c : (claim u b w .orders ≡ w .orders) × (claim u b w .memory ≡ w .memory) × (claim u b w .cache ≡ w .cache) = claim-does u b w y in
+      rw (acts d m k (Store u a v) r, fetches u a v e)
+      (record {
+        orders = rw (c .0, c .1) o;
+        slots =
+            claim-slots d u b w (q .1) y
+            (λ x l n t.
+            ⊎-elim
+            (λ p. shared-holds _ b (s .rest (place x b) (λ i. place-ne u x b n (sym i)) (λ i. shared≢modified b b (sym p ∙ i)) ∙ p))
+            (λ p. shared-holds _ b (s .holder x l p))
+            (holds-is _ b t))
+            (λ n i t. s .rest n i (λ p. false≢true (sym t ∙ modified-holds _ b p)));
+        cache =
+            ap (λ (x : List ℕ). putWord x (cachePlace u a) v) (c .2 ∙ h ∙ ap (λ (x : List ℕ). putBlock k (place u b) (blockAt x b)) (sym (c .1)))
+            ∙ ap (λ (p : ℕ). putWord (putBlock k (place u b) (blockAt (claim u b w .memory) b)) p v) (word-place u a);
+      })
+
+  flush-slots : (u b : ℕ) → u < 4 → SlotsFlushed d u b (empty u (place u b) (ready d m k) .directory)
+  unfolding ready
+  flush-slots u b l =
+      record {
+        own = empty-own u (place u b) (ready d m k) (rw z (place-lt u b l));
+        rest = λ n h. empty-other u (place u b) (ready d m k) n h;
+      }
+
+  flushes : (u b : ℕ) → holds (slotAt d (place u b)) b ≡ true → act (Flush u b) (ready d m k) ≡ empty u (place u b) (ready d m k)
+  unfolding act flush ready
+  flushes u b e = rw e refl
+
+  flush-modified : (u b : ℕ) → refusal d m k (Flush u b) ≡ 0 → slotAt d (place u b) ≡ Modified b
+      → FlushHeld d k u b (by u Copyback b false ∷ []) (putBlock m b (blockAt k (place u b))) (after d m k (Flush u b))
+  unfolding unitOf ready
+  flush-modified u b r e =
+      let q : (sound d ≡ true) × (u < 4) = accepted-says d m k (Flush u b) r in
+      rw (acts d m k (Flush u b) r, flushes u b (modified-holds _ b e))
+      (record {
+        orders = empty-em u (place u b) (ready d m k) b e .0;
+        slots = flush-slots u b (q .1);
+        memory = empty-em u (place u b) (ready d m k) b e .1;
+        cache = empty-cache u (place u b) (ready d m k);
+      })
+
+  flush-shared : (u b : ℕ) → refusal d m k (Flush u b) ≡ 0 → slotAt d (place u b) ≡ Shared b
+      → FlushHeld d k u b [] m (after d m k (Flush u b))
+  unfolding unitOf ready
+  flush-shared u b r e =
+      let q : (sound d ≡ true) × (u < 4) = accepted-says d m k (Flush u b) r in
+      let n : NotEM d (place u b) = λ c y. shared≢modified b c (sym e ∙ y) in
+      rw (acts d m k (Flush u b) r, flushes u b (shared-holds _ b e))
+      (record {
+        orders = empty-not u (place u b) (ready d m k) n .0;
+        slots = flush-slots u b (q .1);
+        memory = empty-not u (place u b) (ready d m k) n .1;
+        cache = empty-cache u (place u b) (ready d m k);
+      })
+
+  flush-other : (u b : ℕ) → refusal d m k (Flush u b) ≡ 0 → holds (slotAt d (place u b)) b ≡ false
+      → Leaves d m [] k (after d m k (Flush u b))
+  unfolding act flush ready
+  flush-other u b r e = rw (acts d m k (Flush u b) r, e) (record { orders = refl; directory = refl; memory = refl; cache = refl })
+
+  load-value : (u a : ℕ) → refusal d m k (Load u a) ≡ 0
+      → answer d m k (Load u a) .value ≡ wordAt (after d m k (Load u a) .cache) (wordPlace u a)
+  unfolding answer valueOf loaded
+  load-value u a r =
+      rw (eq-eqb (refusal d m k (Load u a)) 0 r) (ap (wordAt (after d m k (Load u a) .cache)) (word-place u a))
+
+pub sentences : SentencesHold
+unfolding SentencesHold size
+sentences d m k z =
+    record {
+      loadHeld = load-held d m k z;
+      storeModified = store-modified d m k z;
+      storeShared = store-shared d m k z;
+      loadMissed = load-missed d m k z;
+      storeMissed = store-missed d m k z;
+      flushModified = flush-modified d m k z;
+      flushShared = flush-shared d m k z;
+      flushOther = flush-other d m k z;
+      loaded = load-value d m k z;
+    }
+
+-- ---- peek
+peek-sound : (d : Directory) (m k : List ℕ) (b : ℕ) → peekRefusal d m k b ≡ 0 → sound d ≡ true
+peek-sound d m k b e = go (sized m k) (sound d) (isBlock b) (rw (peek-tests d m k b) at e)
+  where
+    go : (s t g : Bool) → _≡_ {A = ℕ} (cond s (cond t (cond g 0 4) 2) 1) 0 → t ≡ true
+    go true true g e = refl
+    go true false g e = absurd (omega arith)
+    go false t g e = absurd (omega arith)
+
+-- the one unit that has block b EM
+owner-is : (d : Directory) (b v : ℕ) → sound d ≡ true → v < 4 → slotAt d (place v b) ≡ Modified b → ownerOf d b ≡ v
+owner-is d b v s g e =
+    ⊎-elim
+    (λ q.
+    sym (place-div (ownerOf d b) b)
+    ∙ sound-exclusive d (place (ownerOf d b) b) (place v b) b s (place-lt (ownerOf d b) b (q .0)) (place-lt v b g) (q .1) (modified-holds _ b e)
+    ∙ place-div v b)
+    (λ q. absurd (q .1 v g e))
+    (owner-cases d b)
+
+slot-offset : (v b : ℕ) → 32 * place v b ≡ 512 * v + 32 * (b % 16)
+unfolding place
+slot-offset v b = omega arith
+
+peek-cached : (d : Directory) (m k : List ℕ) (b : ℕ) → peekRefusal d m k b ≡ 0 → (v : ℕ) → v < 4 → slotAt d (place v b) ≡ Modified b
+    → (peeked d m k b ≡ blockAt k (place v b)) × (peekFromCache d m k b ≡ true) × (peekOffset d m k b ≡ 512 * v + 32 * (b % 16))
+unfolding peeked peekFromCache peekOffset newest newestBlock fromCache
+peek-cached d m k b r v g e =
+    rw (eq-eqb (peekRefusal d m k b) 0 r, owner-is d b v (peek-sound d m k b r) g e, lt-ltb v 4 g) (refl, refl, slot-offset v b)
+
+peek-other : (d : Directory) (m k : List ℕ) (b : ℕ) → peekRefusal d m k b ≡ 0 → NoneHasEM d b
+    → (peeked d m k b ≡ blockAt m b) × (peekFromCache d m k b ≡ false) × (peekOffset d m k b ≡ 32 * b)
+unfolding peeked peekFromCache peekOffset newest newestBlock fromCache
+peek-other d m k b r h =
+    ⊎-elim
+    (λ q. absurd (h (ownerOf d b) (q .0) (q .1)))
+    (λ q. rw (eq-eqb (peekRefusal d m k b) 0 r, le-ltb (ownerOf d b) 4 (q .0)) (refl, refl, refl))
+    (owner-cases d b)
+
+peek-refused : (d : Directory) (m k : List ℕ) (b : ℕ) → (peekRefusal d m k b ≡ 0 → ⊥) → peeked d m k b ≡ []
+unfolding peeked
+peek-refused d m k b h = rw (ne-eqb (peekRefusal d m k b) 0 h) refl
+
+pub peeks-hold : PeeksHold
+unfolding PeeksHold
+peeks-hold d m k b = record { cached = peek-cached d m k b; other = peek-other d m k b; refused = peek-refused d m k b }
+
+-- ---- cold start
+pub starts-hold : StartsHold
+unfolding StartsHold startAnswer cacheStarted
+starts-hold m k =
+    record {
+      slots = λ n. slot-cold n;
+      cache = λ r. rw (eq-eqb (startRefusal m k) 0 r) refl;
+      refused = λ h. rw (ne-eqb (startRefusal m k) 0 h) refl;
+    }

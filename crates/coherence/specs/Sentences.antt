@@ -1,0 +1,164 @@
+-- Document 01, "What an access does", sentence by sentence: what an accepted call gives and leaves, for every directory and all stores. These say
+-- it by slots, literal orders and bytes, apart from the actions of `Access`. That an answer has these orders is `AnswersOrders`.
+use Prim.Native.Nat.{ℕ, _+_, _*_, _/_, _%_, _<_}
+use mathlib.Core.Path.{_≡_}
+use mathlib.Core.Bool.{Bool, true, false}
+use mathlib.Core.List.{List, [], _∷_}
+use lib.ListN.{length, replicate}
+use Rattle.order.specs.declared.Command.{Command}
+use Rattle.order.specs.declared.Command.the-variants.{Read, ModifiedRead, Invalidate, Copyback}
+use Rattle.order.specs.declared.Order.{Order}
+use Rattle.coherence.specs.declared.Slot.the-variants.{Invalid, Shared, Modified}
+use Rattle.coherence.specs.declared.Directory.{Directory}
+use Rattle.coherence.specs.declared.Call.the-variants.{Load, Store, Flush}
+use Rattle.coherence.specs.Bytes.{blockAt, putBlock, wordAt, putWord}
+use Rattle.coherence.specs.Slots.{place, slotAt, holds}
+use Rattle.coherence.specs.Access.{Run}
+use Rattle.coherence.specs.Refusal.{peekRefusal}
+use Rattle.coherence.specs.Calls.{refusal, after, answer, startAnswer, cacheStarted}
+use Rattle.coherence.specs.Peek.{peeked, peekFromCache, peekOffset}
+
+-- "unit, command, block, retried or not"
+abbrev pub by : ℕ → Command → ℕ → Bool → Order
+by u k b retried = record { unit = u; command = k; block = b; retried = retried }
+
+-- no unit has block b EM
+abbrev pub NoneHasEM : Directory → ℕ → Type 0
+NoneHasEM d b = (v : ℕ) → v < 4 → slotAt d (place v b) ≡ Modified b → ⊥
+
+-- slot n is EM with no block
+abbrev pub NotEM : Directory → ℕ → Type 0
+NotEM d n = (c : ℕ) → slotAt d n ≡ Modified c → ⊥
+
+-- the orders os that unit u gives for block b, which it does not hold, and the memory m′ then. "A copyback copies 32 bytes to memory."
+pub record Orders (d : Directory) (m k : List ℕ) (u b : ℕ) (x : Command) (os : List Order) (m′ : List ℕ) : Type 0 where
+  -- "Order read (load) or modified read (store)."
+  pub alone : NotEM d (place u b) → NoneHasEM d b → (os ≡ by u x b false ∷ []) × (m′ ≡ m)
+  -- "if the slot is EM with another block, order copyback of that block by u."
+  pub evicts : (c : ℕ) → slotAt d (place u b) ≡ Modified c → NoneHasEM d b
+      → (os ≡ by u Copyback c false ∷ by u x b false ∷ []) × (m′ ≡ putBlock m c (blockAt k (place u b)))
+  -- "If another unit holds b EM, that order is retried, the holder gives copyback .., and u gives the same order again, not retried."
+  pub retried : NotEM d (place u b) → (v : ℕ) → v < 4 → slotAt d (place v b) ≡ Modified b
+      → (os ≡ by u x b true ∷ by v Copyback b false ∷ by u x b false ∷ []) × (m′ ≡ putBlock m b (blockAt k (place v b)))
+  pub both : (c : ℕ) → slotAt d (place u b) ≡ Modified c → (v : ℕ) → v < 4 → slotAt d (place v b) ≡ Modified b
+      → (os ≡ by u Copyback c false ∷ by u x b true ∷ by v Copyback b false ∷ by u x b false ∷ [])
+      × (m′ ≡ putBlock (putBlock m c (blockAt k (place u b))) b (blockAt k (place v b)))
+
+-- the slots that a missed load leaves
+pub record SlotsLoaded (d : Directory) (u b : ℕ) (e : Directory) : Type 0 where
+  -- "Load: SU."
+  pub own : slotAt e (place u b) ≡ Shared b
+  -- "the holder .. becomes SU"
+  pub holder : (v : ℕ) → v < 4 → slotAt d (place v b) ≡ Modified b → slotAt e (place v b) ≡ Shared b
+  -- and all else stays
+  pub rest : (n : ℕ) → (n ≡ place u b → ⊥) → (slotAt d n ≡ Modified b → ⊥) → slotAt e n ≡ slotAt d n
+
+-- the slots that a store leaves, if unit u did not have block b EM
+pub record SlotsStored (d : Directory) (u b : ℕ) (e : Directory) : Type 0 where
+  -- "the slot becomes EM"
+  pub own : slotAt e (place u b) ≡ Modified b
+  -- "other units holding b become I"
+  pub others : (v : ℕ) → v < 4 → (v ≡ u → ⊥) → holds (slotAt d (place v b)) b ≡ true → slotAt e (place v b) ≡ Invalid
+  -- and all else stays
+  pub rest : (n : ℕ) → (n ≡ place u b → ⊥) → holds (slotAt d n) b ≡ false → slotAt e n ≡ slotAt d n
+
+-- the slots that a flush of a held block leaves: "a held slot becomes I", and all else stays
+pub record SlotsFlushed (d : Directory) (u b : ℕ) (e : Directory) : Type 0 where
+  pub own : slotAt e (place u b) ≡ Invalid
+  pub rest : (n : ℕ) → (n ≡ place u b → ⊥) → slotAt e n ≡ slotAt d n
+
+-- orders os; the directory and the memory store as they were, and the cache store k′
+pub record Leaves (d : Directory) (m : List ℕ) (os : List Order) (k′ : List ℕ) (w : Run) : Type 0 where
+  pub orders : w .orders ≡ os
+  pub directory : w .directory ≡ d
+  pub memory : w .memory ≡ m
+  pub cache : w .cache ≡ k′
+
+-- the place of address a in the cache store: slot s of unit u lies at 512 u + 32 s
+abbrev pub wordPlace : ℕ → ℕ → ℕ
+wordPlace u a = 512 * u + 32 * (a / 32 % 16) + a % 32
+
+pub record LoadMissed (d : Directory) (m k : List ℕ) (u b : ℕ) (w : Run) : Type 0 where
+  pub orders : Orders d m k u b Read (w .orders) (w .memory)
+  pub slots : SlotsLoaded d u b (w .directory)
+  -- "The block is filled from memory."
+  pub cache : w .cache ≡ putBlock k (place u b) (blockAt (w .memory) b)
+
+pub record StoreShared (d : Directory) (m k : List ℕ) (u a v : ℕ) (w : Run) : Type 0 where
+  -- "order invalidate"
+  pub orders : w .orders ≡ by u Invalidate (a / 32) false ∷ []
+  pub slots : SlotsStored d u (a / 32) (w .directory)
+  -- "A store writes its word in u's cache only."
+  pub memory : w .memory ≡ m
+  pub cache : w .cache ≡ putWord k (wordPlace u a) v
+
+pub record StoreMissed (d : Directory) (m k : List ℕ) (u a v : ℕ) (w : Run) : Type 0 where
+  pub orders : Orders d m k u (a / 32) ModifiedRead (w .orders) (w .memory)
+  pub slots : SlotsStored d u (a / 32) (w .directory)
+  -- "The block is filled from memory." "A store writes its word in u's cache only."
+  pub cache : w .cache ≡ putWord (putBlock k (place u (a / 32)) (blockAt (w .memory) (a / 32))) (wordPlace u a) v
+
+pub record FlushHeld (d : Directory) (k : List ℕ) (u b : ℕ) (os : List Order) (m′ : List ℕ) (w : Run) : Type 0 where
+  pub orders : w .orders ≡ os
+  pub slots : SlotsFlushed d u b (w .directory)
+  pub memory : w .memory ≡ m′
+  -- "its 32 bytes in the cache store stay until the next fill"
+  pub cache : w .cache ≡ k
+
+pub record Sentences (d : Directory) (m k : List ℕ) : Type 0 where
+  -- "Load, b held: no order."
+  pub loadHeld : (u a : ℕ) → refusal d m k (Load u a) ≡ 0 → holds (slotAt d (place u (a / 32))) (a / 32) ≡ true
+      → Leaves d m [] k (after d m k (Load u a))
+  -- "Store, b EM: no order."
+  pub storeModified : (u a v : ℕ) → refusal d m k (Store u a v) ≡ 0 → slotAt d (place u (a / 32)) ≡ Modified (a / 32)
+      → Leaves d m [] (putWord k (wordPlace u a) v) (after d m k (Store u a v))
+  -- "Store, b SU: order invalidate; other units holding b become I; the slot becomes EM."
+  pub storeShared : (u a v : ℕ) → refusal d m k (Store u a v) ≡ 0 → slotAt d (place u (a / 32)) ≡ Shared (a / 32)
+      → StoreShared d m k u a v (after d m k (Store u a v))
+  -- "b not held: .. The block is filled from memory. Load: SU."
+  pub loadMissed : (u a : ℕ) → refusal d m k (Load u a) ≡ 0 → holds (slotAt d (place u (a / 32))) (a / 32) ≡ false
+      → LoadMissed d m k u (a / 32) (after d m k (Load u a))
+  -- "b not held: .. Store: other holders become I, the slot becomes EM."
+  pub storeMissed : (u a v : ℕ) → refusal d m k (Store u a v) ≡ 0 → holds (slotAt d (place u (a / 32))) (a / 32) ≡ false
+      → StoreMissed d m k u a v (after d m k (Store u a v))
+  -- "Flush: EM gives a copyback; a held slot becomes I."
+  pub flushModified : (u b : ℕ) → refusal d m k (Flush u b) ≡ 0 → slotAt d (place u b) ≡ Modified b
+      → FlushHeld d k u b (by u Copyback b false ∷ []) (putBlock m b (blockAt k (place u b))) (after d m k (Flush u b))
+  pub flushShared : (u b : ℕ) → refusal d m k (Flush u b) ≡ 0 → slotAt d (place u b) ≡ Shared b
+      → FlushHeld d k u b [] m (after d m k (Flush u b))
+  -- "Not held: accepted, no orders."
+  pub flushOther : (u b : ℕ) → refusal d m k (Flush u b) ≡ 0 → holds (slotAt d (place u b)) b ≡ false
+      → Leaves d m [] k (after d m k (Flush u b))
+  -- the number that a load answers: the word in u's cache then
+  pub loaded : (u a : ℕ) → refusal d m k (Load u a) ≡ 0
+      → answer d m k (Load u a) .value ≡ wordAt (after d m k (Load u a) .cache) (wordPlace u a)
+
+-- of every directory that has its 64 slots, as the type has
+unfoldable pub SentencesHold : Type 0
+SentencesHold = (d : Directory) (m k : List ℕ) → length (d .slots) ≡ 64 → Sentences d m k
+
+-- ---- peek, and cold start
+
+pub record PeekSays (d : Directory) (m k : List ℕ) (b : ℕ) : Type 0 where
+  -- "from the cache store where some unit has it EM": those bytes, whose they are, and their place there
+  pub cached : peekRefusal d m k b ≡ 0 → (v : ℕ) → v < 4 → slotAt d (place v b) ≡ Modified b
+      → (peeked d m k b ≡ blockAt k (place v b)) × (peekFromCache d m k b ≡ true) × (peekOffset d m k b ≡ 512 * v + 32 * (b % 16))
+  -- "and from memory in every other case"
+  pub other : peekRefusal d m k b ≡ 0 → NoneHasEM d b
+      → (peeked d m k b ≡ blockAt m b) × (peekFromCache d m k b ≡ false) × (peekOffset d m k b ≡ 32 * b)
+  -- "refused, it shows an empty part"
+  pub refused : (peekRefusal d m k b ≡ 0 → ⊥) → peeked d m k b ≡ []
+
+unfoldable pub PeeksHold : Type 0
+PeeksHold = (d : Directory) (m k : List ℕ) (b : ℕ) → PeekSays d m k b
+
+pub record StartSays (m k : List ℕ) : Type 0 where
+  -- "all slots invalid"; "refused, its directory is all invalid"
+  pub slots : (n : ℕ) → slotAt (startAnswer m k .directory) n ≡ Invalid
+  -- "cache store all zeros"
+  pub cache : startAnswer m k .refusal ≡ 0 → cacheStarted m k ≡ replicate 2048 0
+  -- "A refused call .. leaves .. stores .. unchanged."
+  pub refused : (startAnswer m k .refusal ≡ 0 → ⊥) → cacheStarted m k ≡ k
+
+unfoldable pub StartsHold : Type 0
+StartsHold = (m k : List ℕ) → StartSays m k

@@ -1,0 +1,2 @@
+-- What the crates for other languages share.
+pub mod Capped

@@ -1,0 +1,162 @@
+-- The directory's bytes and the directory determine each other.
+use mathlib.Core.Path.{_≡_, refl, sym, ap, _∙_}
+use mathlib.Core.Bool.{Bool, true, false, cond, false≢true}
+use mathlib.Core.List.{List, [], _∷_, _++_, append-assoc}
+use mathlib.Core.Logic.{⊎-elim}
+use Prim.Native.Nat.{ℕ, zero, suc, _+_, _*_, _≤_, _<_}
+use native.Mathlib.Omega.{arith}
+use native.Mathlib.Nat.{le-of-suc-le-suc, eq-or-lt-of-le, not-suc-le-zero}
+use lib.Dec.{eqb}
+use lib.ListN.{length, getD, take, replicate, length-append, List·getD-append}
+use lib.Seq.{take-suc, take-all, getD-append-add}
+use borrow.Author.Tests.{eqb-true, eq-eqb}
+use Rattle.coherence.specs.declared.Slot.{Slot}
+use Rattle.coherence.specs.declared.Slot.the-variants.{Invalid, Shared, Modified}
+use Rattle.coherence.specs.declared.Entry.{Entry}
+use Rattle.coherence.specs.declared.Directory.{Directory}
+use Rattle.coherence.specs.Slots.{emptyEntry, slotAt, blockOf, fits, slotRule, sound}
+use Rattle.coherence.proofs.Below.{below-at}
+use Rattle.layout.specs.Directory.{stateOf, slotBytes, encoded, noSlot, slotSpelled, slotsSpelled, decoded, Inverse}
+use Rattle.layout.proofs.DirectoryLaws.{length-slotBytes}
+
+-- an element of a list that was made by adding at the end
+pub getD-last : {A : Type 0} (xs ys : List A) (i k : ℕ) (e : A) → i ≡ length xs + k → getD (xs ++ ys) i e ≡ getD ys k e
+getD-last xs ys i k e h = ap (λ (j : ℕ). getD (xs ++ ys) j e) h ∙ getD-append-add xs ys k e
+
+-- ---- a directory's bytes
+
+byte-of : (d : Directory) (n i : ℕ) → i < n
+    → (getD (slotBytes n d) (2 * i) 0 ≡ stateOf (slotAt d i)) × (getD (slotBytes n d) (2 * i + 1) 0 ≡ blockOf (slotAt d i))
+unfolding slotBytes
+byte-of d zero i h = absurd (not-suc-le-zero h)
+byte-of d (suc n) i h =
+    let xs : List ℕ = slotBytes n d in
+    let ys : List ℕ = stateOf (slotAt d n) ∷ blockOf (slotAt d n) ∷ [] in
+    let l : length xs ≡ 2 * n = length-slotBytes n d in
+    ⊎-elim
+    (λ (q : i ≡ n).
+    let a : 2 * i ≡ length xs + 0 = omega arith in
+    let b : 2 * i + 1 ≡ length xs + 1 = omega arith in (
+      getD-last xs ys (2 * i) 0 0 a ∙ ap (λ (j : ℕ). stateOf (slotAt d j)) (sym q),
+      getD-last xs ys (2 * i + 1) 1 0 b ∙ ap (λ (j : ℕ). blockOf (slotAt d j)) (sym q),
+    ))
+    (λ (q : i < n).
+    let a : 2 * i < length xs = omega arith in
+    let b : 2 * i + 1 < length xs = omega arith in
+    (List·getD-append xs ys 0 (2 * i) a ∙ byte-of d n i q .0, List·getD-append xs ys 0 (2 * i + 1) b ∙ byte-of d n i q .1))
+    (eq-or-lt-of-le (le-of-suc-le-suc h))
+
+slot-back : (x : Slot) → slotSpelled (stateOf x) (blockOf x) ≡ x
+unfolding slotSpelled stateOf blockOf
+slot-back Invalid = refl
+slot-back (Shared b) = refl
+slot-back (Modified b) = refl
+
+slots-back : (d : Directory) (n : ℕ) → length (d .slots) ≡ 64 → n ≤ 64 → slotsSpelled n (encoded d) ≡ take n (d .slots)
+unfolding slotsSpelled encoded slotAt
+slots-back d zero e h = refl
+slots-back d (suc n) e h =
+    let l : n < 64 = omega arith in
+    let b = byte-of d 64 n l in
+    rw (slots-back d n e (omega arith), b .0, b .1, slot-back (slotAt d n))
+    (sym (take-suc (d .slots) n emptyEntry (omega arith)))
+
+pub length-encoded : (d : Directory) → length (encoded d) ≡ 128
+unfolding encoded
+length-encoded d = length-slotBytes 64 d
+
+back : (d : Directory) → length (d .slots) ≡ 64 → decoded (encoded d) ≡ d
+unfolding decoded
+back d e =
+    let l : length (encoded d) ≡ 128 = length-encoded d in
+    rw (l, slots-back d 64 e (omega arith), take-all 64 (d .slots) (omega arith))
+
+-- ---- bytes that spell a directory
+
+length-slots : (n : ℕ) (l : List ℕ) → length (slotsSpelled n l) ≡ n
+unfolding slotsSpelled
+length-slots zero l = refl
+length-slots (suc n) l = length-append (slotsSpelled n l) _ ∙ ap (λ (k : ℕ). k + 1) (length-slots n l) ∙ (omega arith)
+
+pub length-decoded : (l : List ℕ) → length (decoded l .slots) ≡ 64
+unfolding decoded
+length-decoded l = go (eqb (length l) 128)
+  where
+    go : (t : Bool) → length (cond t (slotsSpelled 64 l) (replicate 64 (record { slot = noSlot }))) ≡ 64
+    go true = length-slots 64 l
+    go false = refl
+
+slot-of : (l : List ℕ) (n i : ℕ) → i < n
+    → getD (slotsSpelled n l) i emptyEntry ≡ record { slot = slotSpelled (getD l (2 * i) 0) (getD l (2 * i + 1) 0) }
+unfolding slotsSpelled
+slot-of l zero i h = absurd (not-suc-le-zero h)
+slot-of l (suc n) i h =
+    let s : ℕ → Entry = λ k. record { slot = slotSpelled (getD l (2 * k) 0) (getD l (2 * k + 1) 0) } in
+    let xs : List Entry = slotsSpelled n l in
+    let e : length xs ≡ n = length-slots n l in
+    ⊎-elim
+    (λ (q : i ≡ n). let a : i ≡ length xs + 0 = omega arith in getD-last xs (s n ∷ []) i 0 emptyEntry a ∙ ap s (sym q))
+    (λ (q : i < n). let a : i < length xs = omega arith in List·getD-append xs (s n ∷ []) emptyEntry i a ∙ slot-of l n i q)
+    (eq-or-lt-of-le (le-of-suc-le-suc h))
+
+-- a pair of bytes that is taken for a slot that its rule allows is that slot's
+pair-forth : (d : Directory) (n s b : ℕ) → slotRule d n (slotSpelled s b) ≡ true
+    → (stateOf (slotSpelled s b) ≡ s) × (blockOf (slotSpelled s b) ≡ b)
+unfolding slotSpelled slotRule fits stateOf blockOf
+pair-forth d n s b = go (eqb s 0) (eqb s 1) (eqb s 2) (eqb b 0) refl refl refl refl
+  where
+    go : (p q r z : Bool) → eqb s 0 ≡ p → eqb s 1 ≡ q → eqb s 2 ≡ r → eqb b 0 ≡ z
+        → let x : Slot = cond p (cond z Invalid noSlot) (cond q (Shared b) (cond r (Modified b) noSlot)) in
+        slotRule d n x ≡ true → (stateOf x ≡ s) × (blockOf x ≡ b)
+    go true q r true e f g h t = (sym (eqb-true s 0 e), sym (eqb-true b 0 h))
+    go true q r false e f g h t = absurd (false≢true t)
+    go false true r z e f g h t = (sym (eqb-true s 1 f), refl)
+    go false false true z e f g h t = (sym (eqb-true s 2 g), refl)
+    go false false false z e f g h t = absurd (false≢true t)
+
+slot-at : (l : List ℕ) (i : ℕ) → length l ≡ 128 → i < 64
+    → slotAt (decoded l) i ≡ slotSpelled (getD l (2 * i) 0) (getD l (2 * i + 1) 0)
+unfolding slotAt decoded
+slot-at l i e h = rw (eq-eqb (length l) 128 e) (ap (λ (x : Entry). x .slot) (slot-of l 64 i h))
+
+-- the rule of slot i, of a directory that is sound
+rule-at : (d : Directory) (i : ℕ) → sound d ≡ true → i < 64 → slotRule d i (slotAt d i) ≡ true
+unfolding sound
+rule-at d i t h = below-at (λ n. slotRule d n (slotAt d n)) 64 i t h
+
+bytes-forth : (l : List ℕ) (n : ℕ) → length l ≡ 128 → sound (decoded l) ≡ true → n ≤ 64 → slotBytes n (decoded l) ≡ take (2 * n) l
+unfolding slotBytes
+bytes-forth l zero e t h = refl
+bytes-forth l (suc n) e t h =
+    let i : n < 64 = omega arith in
+    let s : slotAt (decoded l) n ≡ slotSpelled (getD l (2 * n) 0) (getD l (2 * n + 1) 0) = slot-at l n e i in
+    let p : (stateOf (slotAt (decoded l) n) ≡ getD l (2 * n) 0) × (blockOf (slotAt (decoded l) n) ≡ getD l (2 * n + 1) 0) =
+    rw s (pair-forth (decoded l) n (getD l (2 * n) 0) (getD l (2 * n + 1) 0) (rw s at (rule-at (decoded l) n t i))) in
+    let k : 2 * suc n ≡ suc (suc (2 * n)) = omega arith in
+    let k₁ : suc (2 * n) ≡ 2 * n + 1 = omega arith in
+    rw (p .0, p .1, bytes-forth l n e t (omega arith), k)
+    (sym (take-suc l (suc (2 * n)) 0 (omega arith)
+    ∙ ap (λ (x : List ℕ). x ++ (getD l (suc (2 * n)) 0 ∷ [])) (take-suc l (2 * n) 0 (omega arith))
+    ∙ append-assoc (take (2 * n) l) (getD l (2 * n) 0 ∷ []) (getD l (suc (2 * n)) 0 ∷ [])
+    ∙ ap (λ (j : ℕ). take (2 * n) l ++ (getD l (2 * n) 0 ∷ getD l j 0 ∷ [])) k₁))
+
+no-slots : (l : List ℕ) → eqb (length l) 128 ≡ false → slotAt (decoded l) 0 ≡ noSlot
+unfolding slotAt decoded
+no-slots l e = rw e
+
+broken : (d : Directory) → slotRule d 0 noSlot ≡ true → ⊥
+unfolding slotRule fits
+broken d e = false≢true e
+
+forth : (l : List ℕ) → sound (decoded l) ≡ true → encoded (decoded l) ≡ l
+unfolding encoded
+forth l t = go (eqb (length l) 128) refl
+  where
+    go : (p : Bool) → eqb (length l) 128 ≡ p → slotBytes 64 (decoded l) ≡ l
+    go true e =
+        let n : length l ≡ 128 = eqb-true (length l) 128 e in
+        bytes-forth l 64 n t (omega arith) ∙ take-all 128 l (omega arith)
+    go false e = absurd (broken (decoded l) (rw (no-slots l e) at (rule-at (decoded l) 0 t (omega arith))))
+
+pub inverse : Inverse
+inverse = record { back = back; forth = forth }

@@ -1,0 +1,90 @@
+-- `layout::directory::decode` meets its contract: after n turns the first n slots are those that the bytes spell.
+use Prim.Native.Nat.{_≤_, _<_, _-_}
+use mathlib.Core.Path.{_≡_, refl, sym, ap, _∙_}
+use native.Mathlib.Omega.{arith}
+use borrow.Author.Tests.{eq-eqb, ne-eqb}
+use lib.ListN.{length, take, length-set}
+use lib.Seq.{take-all}
+use Rattle.layout.specs.Directory.{Paired, slotsSpelled, decoded}
+use Rattle.layout.proofs.DirectoryLaws.{take-slot}
+use borrow.Author.Needs.{needs}
+use Rattle.layout.proofs.directory.decode.Statement.{statement}
+use Rattle.layout.proofs.directory.decode.Tie as tie
+
+abbrev Inv-loop : tie.InvT-loop
+Inv-loop bytes slots₀ words n₀ slots n = (n ≤ 64) × (length slots ≡ 64) × (take n slots ≡ slotsSpelled n bytes)
+
+abbrev μ-loop : tie.MeasureT-loop
+μ-loop bytes slots₀ words n₀ slots n = 64 - n
+
+pairs-requires : tie.Need-pairs-requires Inv-loop μ-loop
+pairs-requires c κs = search needs
+
+loop-holds : tie.Need-loop-holds Inv-loop μ-loop
+unfolding slotsSpelled
+loop-holds c = (omega arith, refl, refl)
+
+mul-slot-spelled : tie.Need-mul-slot-spelled Inv-loop μ-loop
+mul-slot-spelled c = search needs
+
+array-read-slot-spelled : tie.Need-array-read-slot-spelled Inv-loop μ-loop
+array-read-slot-spelled c = search needs
+
+slot-spelled-requires : tie.Need-slot-spelled-requires Inv-loop μ-loop
+slot-spelled-requires c κs = search needs
+
+mul-slots : tie.Need-mul-slots Inv-loop μ-loop
+mul-slots c = search needs
+
+array-set-from-slots : tie.Need-array-set-from-slots Inv-loop μ-loop
+array-set-from-slots c = search needs
+
+add-n : tie.Need-add-n Inv-loop μ-loop
+add-n c = search needs
+
+loop-less : tie.Need-loop-less Inv-loop μ-loop
+loop-less c = search needs
+
+loop-again : tie.Need-loop-again Inv-loop μ-loop
+unfolding Paired
+loop-again c =
+    let l = c .before .before .loop in
+    let b = c .before .before .before .before .before .before .args .bytes .now in
+    let p = c .before .before .before .pairs .ensures .1 (l .n) (omega arith) in (
+      omega arith,
+      simp length-set (omega arith),
+      rw (c .slot-spelled .ensures, p .0, p .1) (take-slot b (l .slots) (l .n) (omega arith) (l .inv .2)),
+    )
+
+returns : tie.Need-returns Inv-loop μ-loop
+unfolding decoded
+returns c =
+    let l = c .before .loop in
+    let b = c .before .before .before .before .before .args .bytes .now in
+    let e : l .n ≡ 64 = omega arith in
+    let whole : l .slots ≡ slotsSpelled 64 b =
+    sym (take-all 64 (l .slots) (omega arith)) ∙ (rw e at (l .inv .2)) in
+    rw (eq-eqb _ 128 (c .before .before .before .if1 .taken), whole)
+
+returns-2 : tie.Need-returns-2 Inv-loop μ-loop
+unfolding decoded
+returns-2 c = rw (ne-eqb _ 128 (c .if1 .left))
+
+pub decode-spec : {M : Type 1} → statement M
+decode-spec =
+    tie.close
+    (tie.spec
+    Inv-loop
+    μ-loop
+    pairs-requires
+    loop-holds
+    mul-slot-spelled
+    array-read-slot-spelled
+    slot-spelled-requires
+    mul-slots
+    array-set-from-slots
+    add-n
+    loop-less
+    loop-again
+    returns
+    returns-2)

@@ -1,0 +1,65 @@
+-- The directory as a caller lends it: two bytes for each slot, slot n at 2 n, its state and its block.
+use Prim.Native.Nat.{ℕ, zero, suc, _+_, _*_, _/_, _%_, _<_}
+use mathlib.Core.Path.{_≡_}
+use mathlib.Core.Bool.{true, cond, not, _&&_}
+use mathlib.Core.List.{List, [], _∷_, _++_}
+use lib.ListN.{length, getD, replicate}
+use lib.Dec.{leb, eqb}
+use Rattle.coherence.specs.declared.Slot.{Slot}
+use Rattle.coherence.specs.declared.Slot.the-variants.{Invalid, Shared, Modified}
+use Rattle.coherence.specs.declared.Entry.{Entry}
+use Rattle.coherence.specs.declared.Directory.{Directory}
+use Rattle.coherence.specs.Slots.{blockOf, slotAt, sound}
+
+-- the bytes of a directory
+abbrev pub directorySize : ℕ
+directorySize = 128
+
+-- 0 invalid (I), 1 shared and unmodified (SU), 2 exclusive and modified (EM)
+unfoldable pub stateOf : Slot → ℕ
+stateOf Invalid = 0
+stateOf (Shared b) = 1
+stateOf (Modified b) = 2
+
+-- the bytes of the first n slots
+unfoldable pub slotBytes : ℕ → Directory → List ℕ
+slotBytes zero d = []
+slotBytes (suc n) d = slotBytes n d ++ (stateOf (slotAt d n) ∷ blockOf (slotAt d n) ∷ [])
+
+unfoldable pub encoded : Directory → List ℕ
+encoded d = slotBytes 64 d
+
+-- what a pair of bytes that spells no slot is taken for: a block above 63, so that the machine refuses the directory as broken
+abbrev pub noSlot : Slot
+noSlot = Shared 255
+
+-- the block of a pair with state 1 or 2
+unfoldable pub blockSpelled : ℕ → ℕ → ℕ
+blockSpelled state block = cond (not (eqb state 0) && leb state 2) block 255
+
+unfoldable pub slotSpelled : ℕ → ℕ → Slot
+slotSpelled state block =
+    cond (eqb state 0) (cond (eqb block 0) Invalid noSlot)
+    (cond (eqb state 1) (Shared block)
+    (cond (eqb state 2) (Modified block) noSlot))
+
+-- the numbers w hold the first n pairs of the bytes l, a pair in each: the state below, the block above
+unfoldable pub Paired : List ℕ → ℕ → List ℕ → Type 0
+Paired l n w = (i : ℕ) → i < n → (getD w i 0 % 256 ≡ getD l (2 * i) 0) × (getD w i 0 / 256 ≡ getD l (2 * i + 1) 0)
+
+-- the first n slots that the bytes l spell
+unfoldable pub slotsSpelled : ℕ → List ℕ → List Entry
+slotsSpelled zero l = []
+slotsSpelled (suc n) l = slotsSpelled n l ++ (record { slot = slotSpelled (getD l (2 * n) 0) (getD l (2 * n + 1) 0) } ∷ [])
+
+-- bytes of any other count spell no slot at all
+unfoldable pub decoded : List ℕ → Directory
+decoded l =
+    record { slots = cond (eqb (length l) directorySize) (slotsSpelled 64 l) (replicate 64 (record { slot = noSlot })) }
+
+-- the bytes and the directory determine each other
+pub record Inverse : Type 0 where
+  -- what was written is read back
+  pub back : (d : Directory) → length (d .slots) ≡ 64 → decoded (encoded d) ≡ d
+  -- bytes that the machine takes for a directory are the bytes of that directory, so anything else is refused as broken
+  pub forth : (l : List ℕ) → sound (decoded l) ≡ true → encoded (decoded l) ≡ l

@@ -1,0 +1,3 @@
+-- The directory and a call's answer as a caller in another language lends them.
+pub mod Directory
+pub mod Answer

@@ -1,0 +1,118 @@
+// The directory as bytes that a caller lends: slot n at 2 n, its state (0 I, 1 SU, 2 EM) and its block.
+use coherence::Directory;
+use coherence::Entry;
+use coherence::Slot;
+ghost use mathlib.Core.Path.{_≡_};
+ghost use mathlib.Core.List.{_++_};
+ghost use Prim.Native.Nat.{ℕ, _/_, _%_, _≤_};
+ghost use lib.ListN.{length, drop};
+ghost use Rattle.coherence.specs.Slots.{blockOf};
+ghost use Rattle.layout.specs.Directory.{stateOf, Paired, blockSpelled, slotSpelled, decoded, encoded};
+
+// A block that no slot may have.
+const NO_BLOCK: u8 = 255;
+
+fn state_of(s: Slot) -> u8
+    ensures { λ r. ⌜ r ≡ stateOf s ⌝ }
+{
+    match s {
+        Slot::Invalid => 0,
+        Slot::Shared(_) => 1,
+        Slot::Modified(_) => 2,
+    }
+}
+
+fn block_of(s: Slot) -> u8
+    ensures { λ r. ⌜ r ≡ blockOf s ⌝ }
+{
+    match s {
+        Slot::Invalid => 0,
+        Slot::Shared(b) => b,
+        Slot::Modified(b) => b,
+    }
+}
+
+// A state and a block in one number.
+fn pair(state: u8, block: u8) -> u16
+    ensures { λ r. ⌜ (r % 256 ≡ state) × (r / 256 ≡ block) ⌝ }
+{
+    state as u16 + 256 * (block as u16)
+}
+
+// The 64 pairs of bytes, each as one number. The compiler then reads and compares eight of them at a time.
+fn pairs(bytes: &[u8]) -> [u16; 64]
+    requires { ⌜ length (now bytes) ≡ 128 ⌝ }
+    ensures { λ r. ⌜ (length r ≡ 64) × Paired (now (bytes .entry)) 64 r ⌝ }
+{
+    let mut words = [0u16; 64];
+    let mut n = 0;
+    while n < 64 {
+        words[n] = pair(bytes[2 * n], bytes[2 * n + 1]);
+        n += 1;
+    }
+    words
+}
+
+// The block of a pair with state 1 or 2, else one that no slot may have.
+fn block_spelled(x: u16) -> u8
+    ensures { λ r. ⌜ r ≡ blockSpelled (x % 256) (x / 256) ⌝ }
+{
+    let state = x % 256;
+    if (state != 0) & (state <= 2) {
+        (x / 256) as u8
+    } else {
+        NO_BLOCK
+    }
+}
+
+// The slot of a pair. The arms meet, and no test has more than two of them: so each becomes a choice between values and none a jump, which would be
+// mispredicted with states at random (docs/PERFORMANCE.md).
+fn slot_spelled(x: u16) -> Slot
+    ensures { λ r. ⌜ r ≡ slotSpelled (x % 256) (x / 256) ⌝ }
+{
+    let block = block_spelled(x);
+    if x == 0 {
+        Slot::Invalid
+    } else {
+        if x % 256 == 2 {
+            Slot::Modified(block)
+        } else {
+            Slot::Shared(block)
+        }
+    }
+}
+
+// The directory that the bytes spell. What spells none becomes one that breaks the rules.
+pub fn decode(bytes: &[u8]) -> Directory
+    ensures { λ r. ⌜ r ≡ decoded (now (bytes .entry)) ⌝ }
+{
+    let mut slots = [Entry {
+        slot: Slot::Shared(NO_BLOCK),
+    }; 64];
+    if bytes.len() == 128 {
+        let words = pairs(bytes);
+        let mut n = 0;
+        while n < 64 {
+            let s = slot_spelled(words[n]);
+            slots[n] = Entry { slot: s };
+            n += 1;
+        }
+    }
+    Directory { slots }
+}
+
+// The bytes of a directory, into the first 128 of the lent space.
+pub fn encode(d: Directory, out: &mut [u8])
+    requires { ⌜ 128 ≤ length (now out) ⌝ }
+    ensures { λ _. ⌜ now (out .exit) ≡ encoded d ++ drop 128 (now (out .entry)) ⌝ }
+{
+    let slots = d.slots;
+    let mut n = 0;
+    while n < 64 {
+        let e = slots[n];
+        let s = e.slot;
+        out[2 * n] = state_of(s);
+        out[2 * n + 1] = block_of(s);
+        n += 1;
+    }
+}

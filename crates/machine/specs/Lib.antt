@@ -1,3 +1,0 @@
--- What stands between the code and the definitions of `coherence`.
-pub mod Directory
-pub mod Access

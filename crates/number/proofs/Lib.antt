@@ -1,0 +1,5 @@
+pub mod GroupLaws
+pub mod ReaderLaws
+pub mod NumberLaws
+pub mod SpellLaws
+pub mod RefusalLaws

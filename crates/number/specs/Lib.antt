@@ -1,0 +1,3 @@
+-- Numbers as bytes.
+pub mod Number
+pub mod Spelling

@@ -1,0 +1,134 @@
+// Numbers on the tape (document 01, "The tape"), read and written.
+use order::BAD_NUMBER;
+use order::CUT;
+ghost use mathlib.Core.Path.{_≡_};
+ghost use Prim.Native.Nat.{_+_, _≤_, _<_};
+ghost use lib.ListN.{length, getD};
+ghost use lib.Seq.{sets};
+ghost use Rattle.number.specs.Number.{last, limitOf, numberAt, spellGroups, spellAll, filled};
+
+// The most groups of a number, and the most that the last of so many can hold.
+pub const GROUPS: u64 = 5;
+
+pub const LAST: u64 = 15;
+
+// A number with the place after it, or the number of the refusal with its place.
+pub enum NumberRead {
+    Number(u64, usize),
+    Refused(u8, usize),
+}
+
+fn wide(x: u8) -> u64
+    ensures { λ r. ⌜ (r ≡ x) × (r < 256) ⌝ }
+{
+    x as u64
+}
+
+// The most that a group which ends a number can hold, where `left` more could follow it.
+fn limit(left: u64) -> u64
+    ensures { λ r. ⌜ r ≡ limitOf last left ⌝ }
+{
+    if left == 0 { LAST } else { 127 }
+}
+
+// The number that starts at `at` with the group `first`, whose high bit is set, and goes on after it. The groups read so far mean `value`; the next one
+// counts `weight`, and `left` more could follow it.
+fn read_more(tape: &[u8], at: usize, first: u64) -> NumberRead
+    requires { ⌜ (at < length (now tape)) × (first ≡ getD (now tape) at 0) × (127 < first) ⌝ }
+    ensures { λ r. ⌜ r ≡ numberAt (now (tape .entry)) at ⌝ }
+{
+    let mut value = first % 128;
+    let mut weight: u64 = 128;
+    let mut left = GROUPS - 2;
+    let mut next = at + 1;
+    while next < tape.len() {
+        let b = wide(tape[next]);
+        if b == 0 {
+            return NumberRead::Refused(BAD_NUMBER, at);
+        }
+        if b <= limit(left) {
+            return NumberRead::Number(value + weight * b, next + 1);
+        }
+        if left == 0 {
+            return NumberRead::Refused(BAD_NUMBER, at);
+        }
+        value += weight * (b % 128);
+        weight *= 128;
+        left -= 1;
+        next += 1;
+    }
+    NumberRead::Refused(CUT, at)
+}
+
+// The number that starts at `at`. Most have one group.
+pub fn read_number(tape: &[u8], at: usize) -> NumberRead
+    ensures { λ r. ⌜ r ≡ numberAt (now (tape .entry)) at ⌝ }
+{
+    if tape.len() <= at {
+        return NumberRead::Refused(CUT, at);
+    }
+    let first = wide(tape[at]);
+    if first <= 127 {
+        return NumberRead::Number(first, at + 1);
+    }
+    read_more(tape, at, first)
+}
+
+// How many groups spell `value`, of at most `left`.
+fn count_groups(value: u64, left: u64) -> usize
+    ensures { λ r. ⌜ r ≡ length (spellGroups left value) ⌝ }
+{
+    if left == 0 {
+        return 0;
+    }
+    if value < 128 {
+        return 1;
+    }
+    count_groups(value / 128, left - 1) + 1
+}
+
+// Spells `value` from `at` on, in at most `left` groups; the place after it.
+fn put_groups(out: &mut [u8], at: usize, value: u64, left: u64) -> usize
+    requires { ⌜ at + length (spellGroups left value) ≤ length (now out) ⌝ }
+    ensures { λ r. ⌜ (r ≡ at + length (spellGroups left value)) × (now (out .exit) ≡ sets (now (out .entry)) at (spellGroups left value)) ⌝ }
+{
+    if left == 0 {
+        return at;
+    }
+    if value < 128 {
+        out[at] = value as u8;
+        return at + 1;
+    }
+    out[at] = (value % 128 + 128) as u8;
+    put_groups(out, at + 1, value / 128, left - 1)
+}
+
+// How many bytes spell the numbers.
+fn size_all(numbers: &[u64]) -> usize
+    ensures { λ r. ⌜ r ≡ length (spellAll (now (numbers .entry))) ⌝ }
+{
+    let mut size: usize = 0;
+    let mut i = 0;
+    while i < numbers.len() {
+        size += count_groups(numbers[i], GROUPS);
+        i += 1;
+    }
+    size
+}
+
+// Spells the numbers at the start of `out`, where all of them have room. The answer is how many bytes spell them.
+pub fn write_numbers(numbers: &[u64], out: &mut [u8]) -> usize
+    ensures { λ r. ⌜ (r ≡ length (spellAll (now (numbers .entry)))) × (now (out .exit) ≡ filled (spellAll (now (numbers .entry))) (now (out .entry))) ⌝ }
+{
+    let size = size_all(numbers);
+    if out.len() < size {
+        return size;
+    }
+    let mut at: usize = 0;
+    let mut i = 0;
+    while i < numbers.len() {
+        at = put_groups(out, at, numbers[i], GROUPS);
+        i += 1;
+    }
+    size
+}

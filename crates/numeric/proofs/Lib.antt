@@ -1,0 +1,4 @@
+-- Their laws.
+pub mod Cases
+pub mod RangeLaws
+pub mod BitsLaws

@@ -1,0 +1,3 @@
+-- Sums, bits and ranges of numbers.
+pub mod Range
+pub mod Bits

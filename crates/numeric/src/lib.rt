@@ -1,0 +1,1 @@
+// Sums, bits and ranges of numbers: definitions and laws that several crates share, and no code.

@@ -1,0 +1,21 @@
+-- `orders::evict_and_ask_orders` meets its contract.
+use borrow.Author.Needs.{needs}
+use borrow.Author.Tests.{lt-ltb, le-ltb}
+use Rattle.orders.specs.Orders.{order, askOrders}
+use Rattle.coherence.specs.Calls.{packed}
+use Rattle.orders.proofs.evict_and_ask_orders.Statement.{statement}
+use Rattle.orders.proofs.evict_and_ask_orders.Tie as tie
+
+no-order-requires : tie.Need-no-order-requires
+no-order-requires c κs = search needs
+
+returns : tie.Need-returns
+unfolding packed askOrders order
+returns c = rw (lt-ltb _ _ (c .if1 .taken))
+
+returns-2 : tie.Need-returns-2
+unfolding packed askOrders order
+returns-2 c = rw (le-ltb _ _ (c .before .if1 .left), c .no-order .ensures)
+
+pub evict-and-ask-orders-spec : {M : Type 1} → statement M
+evict-and-ask-orders-spec = tie.close (tie.spec no-order-requires returns returns-2)

@@ -1,0 +1,36 @@
+-- The orders of an access by themselves. The actions that give them are `coherence`'s; `machine` proves that these come to the same. Unit u, command k,
+-- block b, the unit's slot x; v is the unit that has b EM, or 4.
+use Prim.Native.Nat.{ℕ}
+use mathlib.Core.Bool.{Bool, true, false, cond}
+use mathlib.Core.List.{List, [], _∷_, _++_}
+use lib.Dec.{ltb}
+use Rattle.order.specs.declared.Command.{Command}
+use Rattle.order.specs.declared.Command.the-variants.{Copyback}
+use Rattle.order.specs.declared.Order.{Order}
+use Rattle.coherence.specs.declared.Slot.{Slot}
+use Rattle.coherence.specs.declared.Slot.the-variants.{Invalid, Shared, Modified}
+use Rattle.coherence.specs.declared.Directory.{Directory}
+use Rattle.coherence.specs.declared.Orders.{Orders}
+use Rattle.coherence.specs.declared.Answer.{Answer}
+
+-- an order by its parts
+unfoldable pub order : ℕ → Command → ℕ → Bool → Order
+order u k b retried = record { unit = u; command = k; block = b; retried = retried }
+
+-- emptying
+unfoldable pub evictionOrders : ℕ → Slot → List Order
+evictionOrders u Invalid = []
+evictionOrders u (Shared b) = []
+evictionOrders u (Modified b) = order u Copyback b false ∷ []
+
+-- asking
+unfoldable pub askOrders : ℕ → Command → ℕ → ℕ → List Order
+askOrders u k b v = cond (ltb v 4) (order u k b true ∷ order v Copyback b false ∷ order u k b false ∷ []) (order u k b false ∷ [])
+
+-- getting a block that is not held
+unfoldable pub fetchOrders : ℕ → Command → ℕ → Slot → ℕ → List Order
+fetchOrders u k b x v = evictionOrders u x ++ askOrders u k b v
+
+-- an answer by its parts
+unfoldable pub answerOf : ℕ → ℕ → Orders → Directory → Answer
+answerOf r v o d = record { refusal = r; value = v; orders = o; directory = d }

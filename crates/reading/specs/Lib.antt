@@ -1,0 +1,3 @@
+-- A tape read whole.
+pub mod Reading
+pub mod Claims

@@ -1,0 +1,3 @@
+-- Laws that several functions' proofs share.
+pub mod Sets
+pub mod Claims
