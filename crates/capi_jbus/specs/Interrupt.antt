@@ -1,32 +1,18 @@
 -- What reading and writing an interrupt through the C interface answer and leave: from the answer of the crate `jbus`, and from a number x as it was. A
 -- refused call leaves everything.
 use Prim.Native.Nat.{ℕ}
-use mathlib.Core.Path.{_≡_}
 use Rattle.order.specs.Refusal.{accepted}
-use Rattle.jbus.specs.declared.device.Device.{Device}
-use Rattle.jbus.specs.declared.device.Device.the-variants.{Processor, NotSupported, Illegal, Bridge0, Bridge1}
 use Rattle.jbus.specs.declared.interrupt.AddressCycle.{AddressCycle}
 use Rattle.jbus.specs.declared.interrupt.InterruptRead.{InterruptRead}
 use Rattle.jbus.specs.declared.interrupt.InterruptRead.the-variants as read
 use Rattle.jbus.specs.declared.interrupt.CycleWritten.{CycleWritten}
 use Rattle.jbus.specs.declared.interrupt.CycleWritten.the-variants as wrote
+use Rattle.jbus.specs.Device.{deviceNumber}
 
 unfoldable pub halves : ℕ → ℕ → AddressCycle
 halves upper lower = record { upper = upper; lower = lower }
 
 -- ---- reading
-
--- the devices by number, in the order of document 02's list; the numbers are ours
-unfoldable pub deviceNumber : Device → ℕ
-deviceNumber Processor = 0
-deviceNumber NotSupported = 1
-deviceNumber Illegal = 2
-deviceNumber Bridge0 = 3
-deviceNumber Bridge1 = 4
-
--- no two have the same
-unfoldable pub Distinct : Type 0
-Distinct = (d e : Device) → deviceNumber d ≡ deviceNumber e → d ≡ e
 
 unfoldable pub readReturned : InterruptRead → ℕ
 readReturned (read.Interrupt i) = accepted

@@ -5,8 +5,9 @@ use jbus::CycleWritten;
 use jbus::Device;
 use jbus::InterruptRead;
 ghost use mathlib.Core.Path.{_≡_};
+ghost use Rattle.jbus.specs.Device.{deviceNumber};
 ghost use Rattle.jbus.specs.Interrupt.{interruptRead, cycleWritten};
-ghost use Rattle.capi_jbus.specs.Interrupt.{halves, deviceNumber, readReturned, targetLeft, agentLeft, deviceLeft, writeReturned, upperLeft, lowerLeft};
+ghost use Rattle.capi_jbus.specs.Interrupt.{halves, readReturned, targetLeft, agentLeft, deviceLeft, writeReturned, upperLeft, lowerLeft};
 
 fn device_number(device: Device) -> u32
     ensures { λ r. ⌜ r ≡ deviceNumber device ⌝ }

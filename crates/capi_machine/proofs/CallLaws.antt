@@ -7,7 +7,7 @@ use native.Mathlib.Omega.{arith}
 use lib.Dec.{leb, eqb}
 use lib.ListN.{length, drop}
 use lib.Seq.{drop-length}
-use borrow.Author.Tests.{le-leb, lt-leb, eqb-true}
+use borrow.Author.Tests.{le-leb, lt-leb, eqb-true, ne-eqb}
 use Rattle.coherence.specs.declared.Call.{Call}
 use Rattle.coherence.specs.declared.Answer.{Answer}
 use Rattle.coherence.specs.declared.Directory.{Directory}
@@ -18,10 +18,10 @@ use Rattle.coherence.specs.Slots.{sound}
 use Rattle.coherence.specs.Calls.{refusal, after, answer, memoryAfter, cacheAfter, unitOf, isTarget}
 use Rattle.coherence.specs.Demand3.{Answered}
 use Rattle.coherence.proofs.Counts.{answers-orders}
-use Rattle.layout.specs.Directory.{decoded, encoded}
-use Rattle.layout.specs.Answer.{answerNumbers}
+use Rattle.layout.specs.Directory.{decoded, encoded, directoryPut}
+use Rattle.layout.specs.Answer.{answerNumbers, answerPut}
 use Rattle.crossing.proofs.CappedLaws.{caps}
-use Rattle.capi_machine.specs.Call.{Narrows, returned, directoryLeft, memoryLeft, cacheLeft, answerLeft}
+use Rattle.capi_machine.specs.Call.{Narrows, returned, directoryLeft, memoryLeft, cacheLeft, answerLeft, RefusedLeaves}
 use Rattle.layout.proofs.Inverse.{inverse, length-encoded}
 
 pub narrows : Narrows
@@ -79,20 +79,20 @@ refusal-of d m k c = refl
 whole : (x d : List ℕ) → length d ≡ 128 → x ++ drop 128 d ≡ x
 whole x d e = ap (λ (n : ℕ). x ++ drop n d) (sym e) ∙ ap (λ (t : List ℕ). x ++ t) (drop-length d) ∙ append-nil x
 
--- what handing over asks, of an answer that the machine gave
-pub can-hand-over : (d m k a : List ℕ) (c : Call) (r : Answer) (m′ k′ : List ℕ) → Answered (decoded d) m k c r m′ k′ → 18 ≤ length a
-    → (r .orders .count ≤ 4) × (18 ≤ length a) × (r .refusal ≡ 0 → 128 ≤ length d)
-can-hand-over d m k a c r m′ k′ s h = (
-  rw (s .answers) (answers-orders (decoded d) m k c .few),
-  h,
-  λ e. let size : length d ≡ 128 = accepted-size d m k c (sym (refusal-of d m k c) ∙ ap (λ (x : Answer). x .refusal) (sym (s .answers)) ∙ e) in omega arith,
-)
+-- an accepted answer has room
+put-directory : (x : Directory) (d : List ℕ) → length d ≡ 128 → directoryPut x d ≡ encoded x
+unfolding directoryPut
+put-directory x d e = rw (le-leb 128 (length d) (omega arith)) (whole (encoded x) d e)
+
+put-answer : (r : Answer) (a : List ℕ) → 18 ≤ length a → r .orders .count ≤ 4 → answerPut r a ≡ answerNumbers r ++ drop 18 a
+unfolding answerPut
+put-answer r a h few = rw (le-leb 18 (length a) h, le-leb (r .orders .count) 4 few)
 
 pub handed-over : (d m k a : List ℕ) (c : Call) (r : Answer) (code : ℕ) (d′ m′ k′ a′ : List ℕ)
     → Answered (decoded d) m k c r m′ k′ → 18 ≤ length a
     → (code ≡ r .refusal)
-    × (d′ ≡ cond (eqb (r .refusal) 0) (encoded (r .directory) ++ drop 128 d) d)
-    × (a′ ≡ cond (eqb (r .refusal) 0) (answerNumbers r ++ drop 18 a) a)
+    × (d′ ≡ cond (eqb (r .refusal) 0) (directoryPut (r .directory) d) d)
+    × (a′ ≡ cond (eqb (r .refusal) 0) (answerPut r a) a)
     → Left d m k a c code d′ m′ k′ a′
 unfolding returned directoryLeft memoryLeft cacheLeft answerLeft
 handed-over d m k a c r code d′ m′ k′ a′ s h t = go (eqb (refusal (decoded d) m k c) 0) refl
@@ -109,10 +109,10 @@ handed-over d m k a c r code d′ m′ k′ a′ s h t = go (eqb (refusal (decod
         let size : length d ≡ 128 = accepted-size d m k c (eqb-true _ 0 q) in
         record {
           code = rw l (t .0 ∙ n);
-          directory = rw (l, q) ((rw test at (t .1)) ∙ whole (encoded (r .directory)) d size ∙ ap (λ (x : Answer). encoded (x .directory)) (s .answers));
+          directory = rw (l, q) ((rw test at (t .1)) ∙ put-directory (r .directory) d size ∙ ap (λ (x : Answer). encoded (x .directory)) (s .answers));
           memory = rw (l, q) (s .memory);
           cache = rw (l, q) (s .cache);
-          answer = rw (l, q) ((rw test at (t .2)) ∙ ap (λ (x : Answer). answerNumbers x ++ drop 18 a) (s .answers));
+          answer = rw (l, q) ((rw test at (t .2)) ∙ put-answer r a h (rw (s .answers) (answers-orders (decoded d) m k c .few)) ∙ ap (λ (x : Answer). answerNumbers x ++ drop 18 a) (s .answers));
         }
     go false q =
         let test : eqb (r .refusal) 0 ≡ false = ap (λ (x : ℕ). eqb x 0) n ∙ q in
@@ -123,3 +123,16 @@ handed-over d m k a c r code d′ m′ k′ a′ s h t = go (eqb (refusal (decod
           cache = rw (l, q) (s .cache ∙ kept d m k c q .1);
           answer = rw (l, q) (rw test at (t .2));
         }
+
+-- ---- a refused call
+
+pub refused-leaves : (d m k a : List ℕ) (c : Call) → RefusedLeaves d m k a c
+unfolding directoryLeft memoryLeft cacheLeft answerLeft
+refused-leaves d m k a c =
+    record {
+      directory = λ h. rw (ne-eqb (returned d m k a c) 0 h);
+      memory = λ h. rw (ne-eqb (returned d m k a c) 0 h);
+      cache = λ h. rw (ne-eqb (returned d m k a c) 0 h);
+      answer = λ h. rw (ne-eqb (returned d m k a c) 0 h);
+      noRoom = λ h. sym (no-room d m k a c h .code);
+    }

@@ -1,3 +1,4 @@
+pub mod StartLaws
 pub mod CallLaws
 pub mod PlaceLaws
 pub mod Sizes

@@ -1,6 +1,6 @@
 -- What a call through the C interface answers and leaves, from the directory's bytes d, the memory store m, the cache store k and the answer's
 -- space a, for the call c of the machine. "Machine calls test 1, 2, 3, 4 in that order"; before them, 9 if the answer's space is too small.
-use Prim.Native.Nat.{ℕ, _≤_}
+use Prim.Native.Nat.{ℕ, _≤_, _<_}
 use mathlib.Core.Path.{_≡_}
 use mathlib.Core.Bool.{cond}
 use mathlib.Core.List.{List, _++_}
@@ -40,3 +40,11 @@ cacheLeft d m k a c = cond (eqb (returned d m k a c) accepted) (cacheAfter (deco
 unfoldable pub answerLeft : List ℕ → List ℕ → List ℕ → List ℕ → Call → List ℕ
 answerLeft d m k a c =
     cond (eqb (returned d m k a c) accepted) (answerNumbers (answer (decoded d) m k c) ++ drop answerSize a) a
+
+-- "A refused call leaves everything", the answer's space too; and a space that is too small is refused before all else
+pub record RefusedLeaves (d m k a : List ℕ) (c : Call) : Type 0 where
+  pub directory : (returned d m k a c ≡ accepted → ⊥) → directoryLeft d m k a c ≡ d
+  pub memory : (returned d m k a c ≡ accepted → ⊥) → memoryLeft d m k a c ≡ m
+  pub cache : (returned d m k a c ≡ accepted → ⊥) → cacheLeft d m k a c ≡ k
+  pub answer : (returned d m k a c ≡ accepted → ⊥) → answerLeft d m k a c ≡ a
+  pub noRoom : length a < answerSize → returned d m k a c ≡ 9

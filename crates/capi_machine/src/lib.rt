@@ -1,24 +1,25 @@
 // The cache machine for programs in other languages: `include/trainer.h` declares these functions. Slices cross as pointer and length, all else as
 // numbers. Each function is total, and a refused call writes nothing but what its contract says.
 mod call;
-mod place;
 
 use call::hand_over;
 use crossing::byte;
 use layout::decode;
 use layout::encode;
 use order::NO_ROOM;
-use place::place_of;
+use slots::owner;
 ghost use mathlib.Core.Path.{_≡_};
 ghost use Rattle.coherence.specs.declared.Call.the-variants.{Load, Store, Flush};
-ghost use Rattle.capi_machine.specs.Start.{startReturned, startCache, startDirectory};
+ghost use Rattle.coherence.specs.Slots.{coldDirectory};
+ghost use Rattle.layout.specs.Directory.{directoryPut};
+ghost use Rattle.capi_machine.specs.Start.{startReturned, startCache};
 ghost use Rattle.capi_machine.specs.Call.{narrowed, returned, directoryLeft, memoryLeft, cacheLeft, answerLeft};
 ghost use Rattle.capi_machine.specs.Place.{peekReturned, storeLeft, offsetLeft};
 
 // Starts cold, and writes the directory.
 #[no_mangle]
 pub extern "C" fn trainer_cold_start(memory: &[u8], cache: &mut [u8], directory: &mut [u8]) -> u32
-    ensures { λ r. ⌜ (r ≡ startReturned (now (memory .entry)) (now (cache .entry)) (now (directory .entry))) × (now (cache .exit) ≡ startCache (now (memory .entry)) (now (cache .entry)) (now (directory .entry))) × (now (directory .exit) ≡ startDirectory (now (directory .entry))) ⌝ }
+    ensures { λ r. ⌜ (r ≡ startReturned (now (memory .entry)) (now (cache .entry)) (now (directory .entry))) × (now (cache .exit) ≡ startCache (now (memory .entry)) (now (cache .entry)) (now (directory .entry))) × (now (directory .exit) ≡ directoryPut coldDirectory (now (directory .entry))) ⌝ }
 {
     if directory.len() < 128 {
         return NO_ROOM as u32;
@@ -108,8 +109,14 @@ pub extern "C" fn trainer_peek(
     if refusal != 0 {
         return refusal as u32;
     }
-    let newest = place_of(d, b);
-    *store = newest.store;
-    *offset = newest.offset;
-    0
+    let unit = owner(d, b);
+    if unit < 4 {
+        *store = 1;
+        *offset = 512 * (unit as u32) + 32 * ((b % 16) as u32);
+        0
+    } else {
+        *store = 0;
+        *offset = 32 * (b as u32);
+        0
+    }
 }

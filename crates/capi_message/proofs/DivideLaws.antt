@@ -8,11 +8,11 @@ use lib.Dec.{eqb, ltb}
 use lib.ListN.{length, take, drop, length-take, length-drop}
 use lib.Seq.{take-take, take-length}
 use borrow.Author.Tests.{eq-eqb, ne-eqb}
-use Rattle.message.specs.declared.sender.Division.{Division}
-use Rattle.message.specs.Operation.{operation}
-use Rattle.message.specs.Sender.{operationCount, division, partOf, operationAt, partFound, partOffset}
-use Rattle.message.proofs.SenderTests.{operation-found, operation-none}
-use Rattle.message.proofs.SenderLaws.{division-refusal, division-count}
+use Rattle.message_rules.specs.declared.Division.{Division}
+use Rattle.message_rules.specs.Operation.{operation}
+use Rattle.message_rules.specs.Sender.{operationCount, division, partOf, operationAt, partFound, partOffset}
+use Rattle.message_rules.proofs.SenderTests.{operation-found, operation-none}
+use Rattle.message_rules.proofs.SenderLaws.{division-refusal, division-count}
 use Rattle.capi_message.specs.Layout.{senderFrom, aidFrom}
 use Rattle.capi_message.specs.Divide.{divideReturned, divideOperations, operationOffset, operationLength, Marks}
 

@@ -7,12 +7,12 @@ use native.Mathlib.Omega.{arith}
 use lib.Dec.{eqb, leb}
 use lib.ListN.{length, take}
 use borrow.Author.Tests.{eqb-true, leb-true, leb-false, le-leb, lt-leb}
-use Rattle.message.specs.declared.operation.Sequence.{Sequence}
-use Rattle.message.specs.declared.operation.Sequence.the-variants.{Single, First, Middle, Last}
-use Rattle.message.specs.declared.receiver.Receiver.{Receiver}
-use Rattle.message.specs.declared.receiver.Receiver.the-variants.{Idle, Pending}
-use Rattle.message.specs.Operation.{isSource, sequenceNumber}
-use Rattle.message.specs.Receiver.{stateAllowed}
+use Rattle.message_rules.specs.declared.Sequence.{Sequence}
+use Rattle.message_rules.specs.declared.Sequence.the-variants.{Single, First, Middle, Last}
+use Rattle.message_rules.specs.declared.Receiver.{Receiver}
+use Rattle.message_rules.specs.declared.Receiver.the-variants.{Idle, Pending}
+use Rattle.message_rules.specs.Operation.{isSource, sequenceNumber}
+use Rattle.message_rules.specs.Receiver.{stateAllowed}
 use Rattle.capi_message.specs.Layout.{senderFrom, aidFrom, noReceiver, receiverNumbers, receiverOf, receiverFrom, Fits, Inverse, Narrows}
 use Rattle.capi_message.specs.Operation.{sequenceFrom, operationSender, Numbered}
 

@@ -8,12 +8,12 @@ use native.Mathlib.Omega.{arith}
 use lib.Dec.{leb, eqb}
 use lib.ListN.{length, drop}
 use borrow.Author.Tests.{le-leb, lt-leb, eqb-true, eqb-false}
-use Rattle.message.specs.declared.operation.Sequence.{Sequence}
-use Rattle.message.specs.declared.receiver.Receiver.{Receiver}
-use Rattle.message.specs.declared.receiver.Receipt.{Receipt}
-use Rattle.message.specs.Operation.{Operation, operation, ends}
-use Rattle.message.specs.Receiver.{receiveRefusal, taken, receipt, refused, storeAfter}
-use Rattle.message.proofs.ReceiverLaws.{accepted-answer, refused-answer, refused-store, answer-refusal}
+use Rattle.message_rules.specs.declared.Sequence.{Sequence}
+use Rattle.message_rules.specs.declared.Receiver.{Receiver}
+use Rattle.message_rules.specs.declared.Receipt.{Receipt}
+use Rattle.message_rules.specs.Operation.{Operation, operation, ends}
+use Rattle.message_rules.specs.Receiver.{receiveRefusal, taken, receipt, refused, storeAfter}
+use Rattle.message_rules.proofs.ReceiverLaws.{accepted-answer, refused-answer, refused-store, answer-refusal}
 use Rattle.capi_message.specs.Layout.{senderFrom, aidFrom, receiverFrom, receiverNumbers, completionNumbers, Fits}
 use Rattle.capi_message.specs.Operation.{operationFrom, operationSender}
 use Rattle.capi_message.specs.Receive.{spaced, receiveReturned, receiveReceiver, receiveStore, receiveCompletion, Follows}

@@ -6,7 +6,7 @@ use mathlib.Core.List.{List}
 use lib.ListN.{length, take, drop}
 use lib.Dec.{eqb}
 use Rattle.order.specs.Refusal.{accepted}
-use Rattle.message.specs.Sender.{division, operationAt, sequenceFound, partFound, partOffset}
+use Rattle.message_rules.specs.Sender.{division, operationAt, sequenceFound, partFound, partOffset}
 use Rattle.capi_message.specs.Layout.{senderFrom, aidFrom}
 use Rattle.capi_message.specs.Operation.{numberFound}
 

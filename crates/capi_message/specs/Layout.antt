@@ -5,12 +5,12 @@ use mathlib.Core.Bool.{true, cond, _&&_}
 use mathlib.Core.List.{List, [], _∷_, _++_}
 use lib.ListN.{length, getD, take}
 use lib.Dec.{eqb}
-use Rattle.message.specs.declared.receiver.Receiver.{Receiver}
-use Rattle.message.specs.declared.receiver.Receiver.the-variants.{Idle, Pending}
-use Rattle.message.specs.declared.receiver.Completion.{Completion}
-use Rattle.message.specs.declared.receiver.Completion.the-variants.{Incomplete, Complete}
-use Rattle.message.specs.Operation.{isSource}
-use Rattle.message.specs.Receiver.{stateAllowed, completionTold}
+use Rattle.message_rules.specs.declared.Receiver.{Receiver}
+use Rattle.message_rules.specs.declared.Receiver.the-variants.{Idle, Pending}
+use Rattle.message_rules.specs.declared.Completion.{Completion}
+use Rattle.message_rules.specs.declared.Completion.the-variants.{Incomplete, Complete}
+use Rattle.message_rules.specs.Operation.{isSource}
+use Rattle.message_rules.specs.Receiver.{stateAllowed, completionTold}
 
 -- a sender and an AID as their types hold them: any above becomes the most, which is out of range too
 unfoldable pub senderFrom : ℕ → ℕ

@@ -4,11 +4,11 @@ use mathlib.Core.Path.{_≡_}
 use mathlib.Core.Bool.{false, cond}
 use mathlib.Core.List.{List}
 use lib.Dec.{eqb, leb}
-use Rattle.message.specs.declared.operation.Sequence.{Sequence}
-use Rattle.message.specs.declared.operation.Sequence.the-variants.{Single, First, Middle, Last}
-use Rattle.message.specs.declared.sender.SequenceFound.{SequenceFound}
-use Rattle.message.specs.declared.sender.SequenceFound.the-variants.{Known, Nothing}
-use Rattle.message.specs.Operation.{Operation, operation, isSource, sequenceNumber}
+use Rattle.message_rules.specs.declared.Sequence.{Sequence}
+use Rattle.message_rules.specs.declared.Sequence.the-variants.{Single, First, Middle, Last}
+use Rattle.message_rules.specs.declared.SequenceFound.{SequenceFound}
+use Rattle.message_rules.specs.declared.SequenceFound.the-variants.{Known, Nothing}
+use Rattle.message_rules.specs.Operation.{Operation, operation, isSource, sequenceNumber}
 use Rattle.capi_message.specs.Layout.{senderFrom, aidFrom}
 
 -- the sequence that has the number n; a number above 3 is none, and its operation is refused

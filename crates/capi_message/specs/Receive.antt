@@ -7,8 +7,8 @@ use mathlib.Core.List.{List, _++_}
 use lib.ListN.{length, drop}
 use lib.Dec.{leb, eqb}
 use Rattle.order.specs.Refusal.{accepted, noRoom}
-use Rattle.message.specs.Operation.{Operation}
-use Rattle.message.specs.Receiver.{receipt, storeAfter}
+use Rattle.message_rules.specs.Operation.{Operation}
+use Rattle.message_rules.specs.Receiver.{receipt, storeAfter}
 use Rattle.capi_message.specs.Layout.{receiverSize, receiverFrom, receiverNumbers, completionSize, completionNumbers}
 use Rattle.capi_message.specs.Operation.{operationFrom}
 

@@ -1,7 +1,7 @@
 // A receiver and a completion as four numbers that a caller lends.
-use message::Completion;
-use message::Receipt;
-use message::Receiver;
+use message_rules::Completion;
+use message_rules::Receipt;
+use message_rules::Receiver;
 ghost use mathlib.Core.Path.{_≡_};
 ghost use mathlib.Core.Bool.{cond};
 ghost use mathlib.Core.List.{[], _∷_, _++_};

@@ -2,13 +2,13 @@
 use crate::layout::NO_SENDER;
 use crate::layout::aid_from;
 use crate::layout::sender_from;
-use message::Division;
-use message::Sequence;
-use message::SequenceFound;
+use message_rules::Division;
+use message_rules::Sequence;
+use message_rules::SequenceFound;
 ghost use mathlib.Core.Path.{_≡_};
 ghost use lib.ListN.{length};
-ghost use Rattle.message.specs.Operation.{sequenceNumber};
-ghost use Rattle.message.specs.Sender.{division, operationAt, sequenceFound, partFound, partOffset};
+ghost use Rattle.message_rules.specs.Operation.{sequenceNumber};
+ghost use Rattle.message_rules.specs.Sender.{division, operationAt, sequenceFound, partFound, partOffset};
 ghost use Rattle.capi_message.specs.Layout.{senderFrom, aidFrom};
 ghost use Rattle.capi_message.specs.Operation.{sequenceFrom, operationSender, numberFound};
 

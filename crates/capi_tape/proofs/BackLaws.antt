@@ -8,9 +8,9 @@ use Rattle.order.specs.declared.Order.{Order}
 use Rattle.order.specs.Command.{commandNumber, commandOf}
 use Rattle.order.specs.Flag.{flag}
 use Rattle.order.proofs.CommandLaws.{command-of-number}
-use Rattle.tape.specs.declared.record.Record.{Record}
-use Rattle.tape.specs.declared.record.Record.the-variants as rec
-use Rattle.tape.specs.Record.{kindOf, fieldsOf}
+use Rattle.tape_format.specs.declared.Record.{Record}
+use Rattle.tape_format.specs.declared.Record.the-variants as rec
+use Rattle.tape_format.specs.Record.{kindOf, fieldsOf}
 use Rattle.crossing.specs.Capped.{capped}
 use Rattle.crossing.proofs.CappedLaws.{caps}
 use Rattle.capi_tape.specs.declared.entry.RecordFound.{RecordFound}

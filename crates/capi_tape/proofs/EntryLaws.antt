@@ -6,11 +6,11 @@ use Prim.Native.Nat.{ℕ, _≤_, _<_}
 use lib.Dec.{leb}
 use lib.ListN.{length, drop}
 use borrow.Author.Tests.{le-leb, lt-leb}
-use Rattle.tape.specs.declared.record.Record.{Record}
-use Rattle.tape.specs.declared.record.RecordRead.the-variants as read
-use Rattle.tape.specs.declared.write.Written.{Written}
-use Rattle.tape.specs.Record.{recordAt, recordTold, kindOf, fieldsOf}
-use Rattle.tape.specs.Write.{writtenOf, writtenRefusal, spaceAfter}
+use Rattle.tape_format.specs.declared.Record.{Record}
+use Rattle.tape_format.specs.declared.RecordRead.the-variants as read
+use Rattle.tape_format.specs.declared.Written.{Written}
+use Rattle.tape_format.specs.Record.{recordAt, recordTold, kindOf, fieldsOf}
+use Rattle.tape_format.specs.Write.{writtenOf, writtenRefusal, spaceAfter}
 use Rattle.capi_tape.specs.declared.entry.RecordFound.{RecordFound}
 use Rattle.capi_tape.specs.declared.entry.RecordFound.the-variants as found
 use Rattle.capi_tape.specs.Entry.{recordNumbers, filled, readReturned, numbersLeft, nextLeft, writeReturned, spaceLeft, countOr, writtenLeft}

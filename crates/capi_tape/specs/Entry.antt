@@ -9,12 +9,12 @@ use Rattle.order.specs.declared.CommandFound.{CommandFound}
 use Rattle.order.specs.declared.CommandFound.the-variants as command
 use Rattle.order.specs.Command.{commandOf}
 use Rattle.order.specs.Refusal.{unknownKind, fieldRange, noRoom}
-use Rattle.tape.specs.declared.record.Record.{Record}
-use Rattle.tape.specs.declared.record.Record.the-variants as rec
-use Rattle.tape.specs.declared.write.Written.{Written}
-use Rattle.tape.specs.declared.write.Written.the-variants as wrote
-use Rattle.tape.specs.Record.{recordAt, recordTold, kindOf, fieldsOf}
-use Rattle.tape.specs.Write.{writtenOf, writtenRefusal, spaceAfter}
+use Rattle.tape_format.specs.declared.Record.{Record}
+use Rattle.tape_format.specs.declared.Record.the-variants as rec
+use Rattle.tape_format.specs.declared.Written.{Written}
+use Rattle.tape_format.specs.declared.Written.the-variants as wrote
+use Rattle.tape_format.specs.Record.{recordAt, recordTold, kindOf, fieldsOf}
+use Rattle.tape_format.specs.Write.{writtenOf, writtenRefusal, spaceAfter}
 use Rattle.capi_tape.specs.declared.entry.RecordFound.{RecordFound}
 use Rattle.capi_tape.specs.declared.entry.RecordFound.the-variants as found
 use Rattle.crossing.specs.Capped.{capped}

@@ -8,7 +8,7 @@ use order::UNKNOWN_KIND;
 use order::command_number;
 use order::command_of;
 use order::flag_number;
-use tape::Record;
+use tape_format::Record;
 ghost use mathlib.Core.Path.{_≡_};
 ghost use mathlib.Core.List.{[], _∷_, _++_};
 ghost use Prim.Native.Nat.{_≤_};

@@ -6,8 +6,8 @@ use entry::RecordFound;
 use entry::put_record;
 use entry::record_from;
 use order::NO_ROOM;
-use tape::RecordRead;
-use tape::Written;
+use tape_format::RecordRead;
+use tape_format::Written;
 ghost use mathlib.Core.Path.{_≡_};
 ghost use Rattle.capi_tape.specs.Entry.{recordFrom, readReturned, numbersLeft, nextLeft, writeReturned, spaceLeft, writtenLeft};
 

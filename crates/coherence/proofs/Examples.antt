@@ -1,62 +1,33 @@
 -- Document 01's values, computed from the definitions.
 use mathlib.Core.Path.{refl}
 use Rattle.coherence.specs.Bytes.{blockAt, putBlock, wordAt, putWord}
-use Rattle.coherence.specs.Slots.{place, slotAt, setSlot, holds, modified, ownerOf, allBelow, fits, alone, slotRule, sound, coldDirectory}
+use Rattle.coherence.specs.Slots.{place, slotAt, setSlot, stateNumber, holds, modified, ownerOf, allBelow, fits, alone, slotRule, sound, coldDirectory}
 use Rattle.coherence.specs.Access.{ready, give, mark, writeBack, copyback, emptied, empty, yield, ask, fill, fetch, eachUnit, expel, claim, cachePlace, write, load, own, store, flush}
 use Rattle.order.specs.Refusal.{firstRefusal}
 use Rattle.coherence.specs.Refusal.{sized, isUnit, isAddress, isBlock, sizeTest, directoryTest, unitTest, targetTest, callRefusal, startRefusal, peekRefusal}
-use Rattle.coherence.specs.Calls.{unitOf, isTarget, refusal, act, loaded, after, valueOf, packed, answer, memoryAfter, cacheAfter, startAnswer, cacheStarted, answers, afterAll, answersCold, afterCold}
-use Rattle.coherence.specs.Peek.{fromCache, newestBlock, newest, peeked, peekFromCache, peekOffset}
+use Rattle.coherence.specs.Calls.{unitOf, isTarget, refusal, act, loaded, after, valueOf, packed, answer, memoryAfter, cacheAfter, answers, afterAll, answersCold, afterCold}
+use Rattle.coherence.specs.Peek.{fromCache, newestBlock, newest, peeked}
 use Rattle.coherence.specs.PlainMemory.{plainAccepts, plainPut, plainAfter}
 use Rattle.coherence.specs.Snapshot.{replaced, takenBy, takenAfter, takenAfterAll}
 use Rattle.coherence.specs.Demand3.{ordersIn, ordersGiven, isLoad, isStore, acceptedOf, loads, stores}
-use Rattle.coherence.specs.Examples.{zeros, drillCalls, valueAndOrders, conflict, edgeCalls, peekAfter, takenCold, slotTwo, sevens, caches, elevens, withSlot, withBlock, withWord, Examples}
+use Rattle.coherence.specs.Examples.{zeros, drillCalls, valueAndOrders, conflict, edgeCalls, peekAfter, takenCold, Examples}
 
 pub examples : Examples
 unfolding
-    blockAt putBlock wordAt putWord place slotAt setSlot holds modified ownerOf allBelow fits alone slotRule sound coldDirectory
+    blockAt putBlock wordAt putWord place slotAt setSlot stateNumber holds modified ownerOf allBelow fits alone slotRule sound coldDirectory
     ready give mark writeBack copyback emptied empty yield ask fill fetch eachUnit expel claim cachePlace write load own store flush
     firstRefusal sized isUnit isAddress isBlock sizeTest directoryTest unitTest targetTest callRefusal startRefusal peekRefusal
     unitOf isTarget refusal act loaded after valueOf packed answer memoryAfter cacheAfter answers afterAll answersCold afterCold
     fromCache newestBlock newest peeked plainPut plainAfter replaced takenBy takenAfter takenAfterAll peekAfter takenCold
     plainAccepts ordersIn ordersGiven isLoad isStore acceptedOf loads stores zeros drillCalls valueAndOrders conflict edgeCalls
-    startAnswer cacheStarted peekFromCache peekOffset slotTwo sevens caches elevens withSlot withBlock withWord
 examples =
     record {
       drill = record { lines = refl; total = refl };
-      p11 = record { orders = refl; loads = refl; stores = refl };
+      p11 = record { exactly = refl; orders = refl; loads = refl; stores = refl };
       fourOrders = record { orders = refl; value = refl };
       storedBytes = record { cache = refl; memory = refl; flushed = refl; peeked = refl; peekedLater = refl; under = refl; taken = refl };
       invalidations = record { lines = refl; flush = refl };
       directories =
-          record { bothShared = refl; modifiedAndShared = refl; otherBlock = refl; wrongSlot = refl; lastBlock = refl; noBlock = refl };
+          record { bothShared = refl; modifiedAndShared = refl; otherBlock = refl; wrongSlot = refl; lastBlock = refl; noBlock = refl; numbers = refl };
       boundaries = record { calls = refl; plain = refl; peeks = refl; starts = refl };
-      rows =
-          record {
-            loadShared = record { accepts = refl; value = refl; orders = refl; directory = refl; memory = refl; cache = refl };
-            loadModified = record { accepts = refl; value = refl; orders = refl; directory = refl; memory = refl; cache = refl };
-            loadMissed = record { accepts = refl; value = refl; orders = refl; directory = refl; memory = refl; cache = refl };
-            loadRetried = record { accepts = refl; value = refl; orders = refl; directory = refl; memory = refl; cache = refl };
-            loadEvicts = record { accepts = refl; value = refl; orders = refl; directory = refl; memory = refl; cache = refl };
-            storeModified = record { accepts = refl; value = refl; orders = refl; directory = refl; memory = refl; cache = refl };
-            storeShared = record { accepts = refl; value = refl; orders = refl; directory = refl; memory = refl; cache = refl };
-            storeMissed = record { accepts = refl; value = refl; orders = refl; directory = refl; memory = refl; cache = refl };
-            storeRetried = record { accepts = refl; value = refl; orders = refl; directory = refl; memory = refl; cache = refl };
-            storeEvicts = record { accepts = refl; value = refl; orders = refl; directory = refl; memory = refl; cache = refl };
-            flushModified = record { accepts = refl; value = refl; orders = refl; directory = refl; memory = refl; cache = refl };
-            flushShared = record { accepts = refl; value = refl; orders = refl; directory = refl; memory = refl; cache = refl };
-            flushOther = record { accepts = refl; value = refl; orders = refl; directory = refl; memory = refl; cache = refl };
-            flushOtherShared = record { accepts = refl; value = refl; orders = refl; directory = refl; memory = refl; cache = refl };
-          };
-      peeks =
-          record {
-            shared = refl;
-            sharedFromCache = refl;
-            sharedOffset = refl;
-            modified = refl;
-            modifiedFromCache = refl;
-            modifiedOffset = refl;
-          };
-      starts =
-          record { cache = refl; directory = refl; shortMemory = refl; shortMemoryDirectory = refl; shortMemoryCache = refl; shortCache = refl };
     }

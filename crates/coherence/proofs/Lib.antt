@@ -14,4 +14,5 @@ pub mod Steps
 pub mod Sessions
 pub mod Theorem
 pub mod Sentences
+pub mod AccessRows
 pub mod Examples

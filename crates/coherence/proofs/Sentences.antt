@@ -20,13 +20,14 @@ use Rattle.coherence.specs.Bytes.{blockAt, putBlock, wordAt, putWord}
 use Rattle.coherence.specs.Slots.{place, slotAt, holds, modified, ownerOf, sound}
 use Rattle.coherence.specs.Access.{Run, ready, give, mark, writeBack, copyback, emptied, empty, yield, ask, fill, fetch, eachUnit, expel, claim, cachePlace, write, load, own, store, flush}
 use Rattle.coherence.specs.Refusal.{sized, isUnit, isBlock, startRefusal, peekRefusal}
-use Rattle.coherence.specs.Calls.{unitOf, isTarget, refusal, act, loaded, after, valueOf, answer, startAnswer, cacheStarted}
+use Rattle.coherence.specs.Calls.{unitOf, isTarget, refusal, act, loaded, after, valueOf, answer, memoryAfter, cacheAfter, startAnswer, cacheStarted}
 use Rattle.coherence.specs.Peek.{fromCache, newestBlock, newest, peeked, peekFromCache, peekOffset}
-use Rattle.coherence.specs.Sentences.{by, NoneHasEM, NotEM, Orders, SlotsLoaded, SlotsStored, SlotsFlushed, Leaves, wordPlace, LoadMissed, StoreShared, StoreMissed, FlushHeld, SentencesHold, PeeksHold, StartsHold}
+use Rattle.coherence.specs.Sentences.{Accepted, left, by, NoneHasEM, NotEM, MissOrders, SlotsLoaded, SlotsStored, SlotsFlushed, Leaves, wordPlace, LoadMissed, StoreShared, StoreMissed, FlushHeld, SentencesHold, PeeksHold, StartsHold}
 use Rattle.coherence.proofs.Cases.{eq-or-ne, four}
 use Rattle.coherence.proofs.SlotLaws.{size, size-set, slot-same, slot-other, holds-invalid, modified-holds, shared-holds, holds-is, is-modified, invalid≢modified, shared≢modified, place-lt, place-ne, owner-cases, slot-cold}
 use Rattle.coherence.proofs.Rules.{sound-exclusive}
-use Rattle.coherence.proofs.RefusalLaws.{call-tests, peek-tests}
+use Rattle.coherence.proofs.RefusalLaws.{call-tests, start-tests, peek-tests, sized-say, sized-true}
+use Rattle.coherence.proofs.Counts.{orders-in}
 
 -- ---- an accepted call
 tests-say : (s t r g : Bool) → _≡_ {A = ℕ} (cond s (cond t (cond r (cond g 0 4) 3) 2) 1) 0 → (t ≡ true) × (r ≡ true)
@@ -233,7 +234,7 @@ module _ (d : Directory) (m k : List ℕ) (u b : ℕ) (x : Command) (l : u < 4) 
             ∙ ap (λ (r : List ℕ). putBlock n b (blockAt r (place v b))) cache₁,
       )
 
-  fetch-orders : Orders d m k u b x (fetch u x b (ready d m k) .orders) (fetch u x b (ready d m k) .memory)
+  fetch-orders : MissOrders d m k u b x (fetch u x b (ready d m k) .orders) (fetch u x b (ready d m k) .memory)
   unfolding fetch fill
   fetch-orders =
       record {
@@ -472,7 +473,7 @@ module _ (d : Directory) (m k : List ℕ) (z : size d ≡ 64) where
       let q : (sound d ≡ true) × (u < 4) = accepted-says d m k (Store u a v) r in
       let y : size (w .directory) ≡ 64 = fetch-size d m k u b ModifiedRead (q .1) z (q .0) e in
       let s : SlotsLoaded d u b (w .directory) = fetch-slots d m k u b ModifiedRead (q .1) z (q .0) e in
-      let o : Orders d m k u b ModifiedRead (w .orders) (w .memory) = fetch-orders d m k u b ModifiedRead (q .1) z (q .0) e in
+      let o : MissOrders d m k u b ModifiedRead (w .orders) (w .memory) = fetch-orders d m k u b ModifiedRead (q .1) z (q .0) e in
       let h : w .cache ≡ putBlock k (place u b) (blockAt (w .memory) b) = fetch-cache d m k u b ModifiedRead (q .1) z (q .0) e in
       let c : (claim u b w .orders ≡ w .orders) × (claim u b w .memory ≡ w .memory) × (claim u b w .cache ≡ w .cache) = claim-does u b w y in
       rw (acts d m k (Store u a v) r, fetches u a v e)
@@ -535,25 +536,45 @@ module _ (d : Directory) (m k : List ℕ) (z : size d ≡ 64) where
   unfolding act flush ready
   flush-other u b r e = rw (acts d m k (Flush u b) r, e) (record { orders = refl; directory = refl; memory = refl; cache = refl })
 
-  load-value : (u a : ℕ) → refusal d m k (Load u a) ≡ 0
-      → answer d m k (Load u a) .value ≡ wordAt (after d m k (Load u a) .cache) (wordPlace u a)
-  unfolding answer valueOf loaded
+  load-value : (u a : ℕ) → Accepted d m k (Load u a) → answer d m k (Load u a) .value ≡ wordAt (cacheAfter d m k (Load u a)) (wordPlace u a)
+  unfolding answer valueOf loaded cacheAfter
   load-value u a r =
       rw (eq-eqb (refusal d m k (Load u a)) 0 r) (ap (wordAt (after d m k (Load u a) .cache)) (word-place u a))
 
+  either : (t : Bool) → _≡_ {A = ℕ} (cond t 0 0) 0
+  either true = refl
+  either false = refl
+
+  store-value : (u a v : ℕ) → answer d m k (Store u a v) .value ≡ 0
+  unfolding answer valueOf loaded
+  store-value u a v = either (eqb (refusal d m k (Store u a v)) 0)
+
+  flush-value : (u b : ℕ) → answer d m k (Flush u b) .value ≡ 0
+  unfolding answer valueOf loaded
+  flush-value u b = either (eqb (refusal d m k (Flush u b)) 0)
+
+  -- what the contracts fix is the machine after the call
+  left-is : (c : Call) → left d m k c ≡ after d m k c
+  unfolding left answer memoryAfter cacheAfter
+  left-is c =
+      ap (λ (os : List Order). record { directory = after d m k c .directory; memory = after d m k c .memory; cache = after d m k c .cache; orders = os })
+      (orders-in d m k c)
+
 pub sentences : SentencesHold
-unfolding SentencesHold size
+unfolding SentencesHold size answer
 sentences d m k z =
     record {
-      loadHeld = load-held d m k z;
-      storeModified = store-modified d m k z;
-      storeShared = store-shared d m k z;
-      loadMissed = load-missed d m k z;
-      storeMissed = store-missed d m k z;
-      flushModified = flush-modified d m k z;
-      flushShared = flush-shared d m k z;
-      flushOther = flush-other d m k z;
+      loadHeld = λ u a r e. rw (left-is d m k z (Load u a)) (load-held d m k z u a r e);
+      storeModified = λ u a v r e. rw (left-is d m k z (Store u a v)) (store-modified d m k z u a v r e);
+      storeShared = λ u a v r e. rw (left-is d m k z (Store u a v)) (store-shared d m k z u a v r e);
+      loadMissed = λ u a r e. rw (left-is d m k z (Load u a)) (load-missed d m k z u a r e);
+      storeMissed = λ u a v r e. rw (left-is d m k z (Store u a v)) (store-missed d m k z u a v r e);
+      flushModified = λ u b r e. rw (left-is d m k z (Flush u b)) (flush-modified d m k z u b r e);
+      flushShared = λ u b r e. rw (left-is d m k z (Flush u b)) (flush-shared d m k z u b r e);
+      flushOther = λ u b r e. rw (left-is d m k z (Flush u b)) (flush-other d m k z u b r e);
       loaded = load-value d m k z;
+      stored = store-value d m k z;
+      flushed = flush-value d m k z;
     }
 
 -- ---- peek
@@ -595,20 +616,31 @@ peek-other d m k b r h =
     (λ q. rw (eq-eqb (peekRefusal d m k b) 0 r, le-ltb (ownerOf d b) 4 (q .0)) (refl, refl, refl))
     (owner-cases d b)
 
-peek-refused : (d : Directory) (m k : List ℕ) (b : ℕ) → (peekRefusal d m k b ≡ 0 → ⊥) → peeked d m k b ≡ []
-unfolding peeked
-peek-refused d m k b h = rw (ne-eqb (peekRefusal d m k b) 0 h) refl
+peek-refused : (d : Directory) (m k : List ℕ) (b : ℕ) → (peekRefusal d m k b ≡ 0 → ⊥)
+    → (peeked d m k b ≡ []) × (peekFromCache d m k b ≡ false) × (peekOffset d m k b ≡ 0)
+unfolding peeked peekFromCache peekOffset
+peek-refused d m k b h = rw (ne-eqb (peekRefusal d m k b) 0 h) (refl, refl, refl)
 
 pub peeks-hold : PeeksHold
 unfolding PeeksHold
 peeks-hold d m k b = record { cached = peek-cached d m k b; other = peek-other d m k b; refused = peek-refused d m k b }
 
 -- ---- cold start
+start-accepts : (m k : List ℕ) → length m ≡ 2048 → length k ≡ 2048 → startRefusal m k ≡ 0
+start-accepts m k e f = start-tests m k ∙ rw (sized-true m k e f) refl
+
+start-refuses : (m k : List ℕ) → (length m ≡ 2048 → length k ≡ 2048 → ⊥) → startRefusal m k ≡ 1
+start-refuses m k h = start-tests m k ∙ go (sized m k) refl
+  where
+    go : (t : Bool) → sized m k ≡ t → _≡_ {A = ℕ} (cond t 0 1) 1
+    go true e = absurd (h (sized-say m k e .0) (sized-say m k e .1))
+    go false e = refl
+
 pub starts-hold : StartsHold
 unfolding StartsHold startAnswer cacheStarted
 starts-hold m k =
     record {
       slots = λ n. slot-cold n;
-      cache = λ r. rw (eq-eqb (startRefusal m k) 0 r) refl;
-      refused = λ h. rw (ne-eqb (startRefusal m k) 0 h) refl;
+      accepted = λ e f. rw (start-accepts m k e f) (refl, refl);
+      refused = λ h. rw (start-refuses m k h) (refl, refl);
     }

@@ -9,4 +9,5 @@ pub mod PlainMemory
 pub mod Demand3
 pub mod Snapshot
 pub mod Sentences
+pub mod AccessRows
 pub mod Examples

@@ -1,5 +1,6 @@
--- Document 01, "What an access does", sentence by sentence: what an accepted call gives and leaves, for every directory and all stores. These say
--- it by slots, literal orders and bytes, apart from the actions of `Access`. That an answer has these orders is `AnswersOrders`.
+-- Document 01, "What an access does", sentence by sentence: what an accepted call answers and leaves, for every directory and both stores. These say
+-- it by slots, literal orders and bytes, apart from the actions of `Access`. Peek and cold start likewise, refused ones too; `Demand3.Refused` is the
+-- same for refused calls.
 use Prim.Native.Nat.{ℕ, _+_, _*_, _/_, _%_, _<_}
 use mathlib.Core.Path.{_≡_}
 use mathlib.Core.Bool.{Bool, true, false}
@@ -10,13 +11,28 @@ use Rattle.order.specs.declared.Command.the-variants.{Read, ModifiedRead, Inval
 use Rattle.order.specs.declared.Order.{Order}
 use Rattle.coherence.specs.declared.Slot.the-variants.{Invalid, Shared, Modified}
 use Rattle.coherence.specs.declared.Directory.{Directory}
+use Rattle.coherence.specs.declared.Call.{Call}
 use Rattle.coherence.specs.declared.Call.the-variants.{Load, Store, Flush}
 use Rattle.coherence.specs.Bytes.{blockAt, putBlock, wordAt, putWord}
 use Rattle.coherence.specs.Slots.{place, slotAt, holds}
 use Rattle.coherence.specs.Access.{Run}
 use Rattle.coherence.specs.Refusal.{peekRefusal}
-use Rattle.coherence.specs.Calls.{refusal, after, answer, startAnswer, cacheStarted}
+use Rattle.coherence.specs.Calls.{answer, memoryAfter, cacheAfter, startAnswer, cacheStarted}
 use Rattle.coherence.specs.Peek.{peeked, peekFromCache, peekOffset}
+use Rattle.coherence.specs.Demand3.{ordersIn}
+
+abbrev pub Accepted : Directory → List ℕ → List ℕ → Call → Type 0
+Accepted d m k c = answer d m k c .refusal ≡ 0
+
+-- what the contracts fix of a call: the directory and the orders in its answer, and the two stores that it leaves
+unfoldable pub left : Directory → List ℕ → List ℕ → Call → Run
+left d m k c =
+    record {
+      directory = answer d m k c .directory;
+      memory = memoryAfter d m k c;
+      cache = cacheAfter d m k c;
+      orders = ordersIn (answer d m k c);
+    }
 
 -- "unit, command, block, retried or not"
 abbrev pub by : ℕ → Command → ℕ → Bool → Order
@@ -31,7 +47,7 @@ abbrev pub NotEM : Directory → ℕ → Type 0
 NotEM d n = (c : ℕ) → slotAt d n ≡ Modified c → ⊥
 
 -- the orders os that unit u gives for block b, which it does not hold, and the memory m′ then. "A copyback copies 32 bytes to memory."
-pub record Orders (d : Directory) (m k : List ℕ) (u b : ℕ) (x : Command) (os : List Order) (m′ : List ℕ) : Type 0 where
+pub record MissOrders (d : Directory) (m k : List ℕ) (u b : ℕ) (x : Command) (os : List Order) (m′ : List ℕ) : Type 0 where
   -- "Order read (load) or modified read (store)."
   pub alone : NotEM d (place u b) → NoneHasEM d b → (os ≡ by u x b false ∷ []) × (m′ ≡ m)
   -- "if the slot is EM with another block, order copyback of that block by u."
@@ -79,7 +95,7 @@ abbrev pub wordPlace : ℕ → ℕ → ℕ
 wordPlace u a = 512 * u + 32 * (a / 32 % 16) + a % 32
 
 pub record LoadMissed (d : Directory) (m k : List ℕ) (u b : ℕ) (w : Run) : Type 0 where
-  pub orders : Orders d m k u b Read (w .orders) (w .memory)
+  pub orders : MissOrders d m k u b Read (w .orders) (w .memory)
   pub slots : SlotsLoaded d u b (w .directory)
   -- "The block is filled from memory."
   pub cache : w .cache ≡ putBlock k (place u b) (blockAt (w .memory) b)
@@ -93,7 +109,7 @@ pub record StoreShared (d : Directory) (m k : List ℕ) (u a v : ℕ) (w : Run) 
   pub cache : w .cache ≡ putWord k (wordPlace u a) v
 
 pub record StoreMissed (d : Directory) (m k : List ℕ) (u a v : ℕ) (w : Run) : Type 0 where
-  pub orders : Orders d m k u (a / 32) ModifiedRead (w .orders) (w .memory)
+  pub orders : MissOrders d m k u (a / 32) ModifiedRead (w .orders) (w .memory)
   pub slots : SlotsStored d u (a / 32) (w .directory)
   -- "The block is filled from memory." "A store writes its word in u's cache only."
   pub cache : w .cache ≡ putWord (putBlock k (place u (a / 32)) (blockAt (w .memory) (a / 32))) (wordPlace u a) v
@@ -107,31 +123,33 @@ pub record FlushHeld (d : Directory) (k : List ℕ) (u b : ℕ) (os : List Order
 
 pub record Sentences (d : Directory) (m k : List ℕ) : Type 0 where
   -- "Load, b held: no order."
-  pub loadHeld : (u a : ℕ) → refusal d m k (Load u a) ≡ 0 → holds (slotAt d (place u (a / 32))) (a / 32) ≡ true
-      → Leaves d m [] k (after d m k (Load u a))
+  pub loadHeld : (u a : ℕ) → Accepted d m k (Load u a) → holds (slotAt d (place u (a / 32))) (a / 32) ≡ true
+      → Leaves d m [] k (left d m k (Load u a))
   -- "Store, b EM: no order."
-  pub storeModified : (u a v : ℕ) → refusal d m k (Store u a v) ≡ 0 → slotAt d (place u (a / 32)) ≡ Modified (a / 32)
-      → Leaves d m [] (putWord k (wordPlace u a) v) (after d m k (Store u a v))
+  pub storeModified : (u a v : ℕ) → Accepted d m k (Store u a v) → slotAt d (place u (a / 32)) ≡ Modified (a / 32)
+      → Leaves d m [] (putWord k (wordPlace u a) v) (left d m k (Store u a v))
   -- "Store, b SU: order invalidate; other units holding b become I; the slot becomes EM."
-  pub storeShared : (u a v : ℕ) → refusal d m k (Store u a v) ≡ 0 → slotAt d (place u (a / 32)) ≡ Shared (a / 32)
-      → StoreShared d m k u a v (after d m k (Store u a v))
+  pub storeShared : (u a v : ℕ) → Accepted d m k (Store u a v) → slotAt d (place u (a / 32)) ≡ Shared (a / 32)
+      → StoreShared d m k u a v (left d m k (Store u a v))
   -- "b not held: .. The block is filled from memory. Load: SU."
-  pub loadMissed : (u a : ℕ) → refusal d m k (Load u a) ≡ 0 → holds (slotAt d (place u (a / 32))) (a / 32) ≡ false
-      → LoadMissed d m k u (a / 32) (after d m k (Load u a))
+  pub loadMissed : (u a : ℕ) → Accepted d m k (Load u a) → holds (slotAt d (place u (a / 32))) (a / 32) ≡ false
+      → LoadMissed d m k u (a / 32) (left d m k (Load u a))
   -- "b not held: .. Store: other holders become I, the slot becomes EM."
-  pub storeMissed : (u a v : ℕ) → refusal d m k (Store u a v) ≡ 0 → holds (slotAt d (place u (a / 32))) (a / 32) ≡ false
-      → StoreMissed d m k u a v (after d m k (Store u a v))
+  pub storeMissed : (u a v : ℕ) → Accepted d m k (Store u a v) → holds (slotAt d (place u (a / 32))) (a / 32) ≡ false
+      → StoreMissed d m k u a v (left d m k (Store u a v))
   -- "Flush: EM gives a copyback; a held slot becomes I."
-  pub flushModified : (u b : ℕ) → refusal d m k (Flush u b) ≡ 0 → slotAt d (place u b) ≡ Modified b
-      → FlushHeld d k u b (by u Copyback b false ∷ []) (putBlock m b (blockAt k (place u b))) (after d m k (Flush u b))
-  pub flushShared : (u b : ℕ) → refusal d m k (Flush u b) ≡ 0 → slotAt d (place u b) ≡ Shared b
-      → FlushHeld d k u b [] m (after d m k (Flush u b))
+  pub flushModified : (u b : ℕ) → Accepted d m k (Flush u b) → slotAt d (place u b) ≡ Modified b
+      → FlushHeld d k u b (by u Copyback b false ∷ []) (putBlock m b (blockAt k (place u b))) (left d m k (Flush u b))
+  pub flushShared : (u b : ℕ) → Accepted d m k (Flush u b) → slotAt d (place u b) ≡ Shared b
+      → FlushHeld d k u b [] m (left d m k (Flush u b))
   -- "Not held: accepted, no orders."
-  pub flushOther : (u b : ℕ) → refusal d m k (Flush u b) ≡ 0 → holds (slotAt d (place u b)) b ≡ false
-      → Leaves d m [] k (after d m k (Flush u b))
-  -- the number that a load answers: the word in u's cache then
-  pub loaded : (u a : ℕ) → refusal d m k (Load u a) ≡ 0
-      → answer d m k (Load u a) .value ≡ wordAt (after d m k (Load u a) .cache) (wordPlace u a)
+  pub flushOther : (u b : ℕ) → Accepted d m k (Flush u b) → holds (slotAt d (place u b)) b ≡ false
+      → Leaves d m [] k (left d m k (Flush u b))
+  -- the number that a load answers: the word in u's cache then; a store and a flush answer 0, by our choice
+  pub loaded : (u a : ℕ) → Accepted d m k (Load u a)
+      → answer d m k (Load u a) .value ≡ wordAt (cacheAfter d m k (Load u a)) (wordPlace u a)
+  pub stored : (u a v : ℕ) → answer d m k (Store u a v) .value ≡ 0
+  pub flushed : (u b : ℕ) → answer d m k (Flush u b) .value ≡ 0
 
 -- of every directory that has its 64 slots, as the type has
 unfoldable pub SentencesHold : Type 0
@@ -146,8 +164,8 @@ pub record PeekSays (d : Directory) (m k : List ℕ) (b : ℕ) : Type 0 where
   -- "and from memory in every other case"
   pub other : peekRefusal d m k b ≡ 0 → NoneHasEM d b
       → (peeked d m k b ≡ blockAt m b) × (peekFromCache d m k b ≡ false) × (peekOffset d m k b ≡ 32 * b)
-  -- "refused, it shows an empty part"
-  pub refused : (peekRefusal d m k b ≡ 0 → ⊥) → peeked d m k b ≡ []
+  -- "refused, it shows an empty part": memory's, at its start, by our choice
+  pub refused : (peekRefusal d m k b ≡ 0 → ⊥) → (peeked d m k b ≡ []) × (peekFromCache d m k b ≡ false) × (peekOffset d m k b ≡ 0)
 
 unfoldable pub PeeksHold : Type 0
 PeeksHold = (d : Directory) (m k : List ℕ) (b : ℕ) → PeekSays d m k b
@@ -156,9 +174,9 @@ pub record StartSays (m k : List ℕ) : Type 0 where
   -- "all slots invalid"; "refused, its directory is all invalid"
   pub slots : (n : ℕ) → slotAt (startAnswer m k .directory) n ≡ Invalid
   -- "cache store all zeros"
-  pub cache : startAnswer m k .refusal ≡ 0 → cacheStarted m k ≡ replicate 2048 0
-  -- "A refused call .. leaves .. stores .. unchanged."
-  pub refused : (startAnswer m k .refusal ≡ 0 → ⊥) → cacheStarted m k ≡ k
+  pub accepted : length m ≡ 2048 → length k ≡ 2048 → (startAnswer m k .refusal ≡ 0) × (cacheStarted m k ≡ replicate 2048 0)
+  -- "Cold start tests 1 alone": "memory store or cache store isn't 2,048 bytes". "A refused call .. leaves .. stores .. unchanged."
+  pub refused : (length m ≡ 2048 → length k ≡ 2048 → ⊥) → (startAnswer m k .refusal ≡ 1) × (cacheStarted m k ≡ k)
 
 unfoldable pub StartsHold : Type 0
 StartsHold = (m k : List ℕ) → StartSays m k

@@ -38,6 +38,12 @@ blockOf Invalid = 0
 blockOf (Shared b) = b
 blockOf (Modified b) = b
 
+-- a slot's state as a number. House numbering: document 01 gives the states none; these are ours
+unfoldable pub stateNumber : Slot → ℕ
+stateNumber Invalid = 0
+stateNumber (Shared b) = 1
+stateNumber (Modified b) = 2
+
 -- x is valid and has block b
 unfoldable pub holds : Slot → ℕ → Bool
 holds Invalid b = false

@@ -15,9 +15,9 @@ use Rattle.coherence.specs.Calls.{answer, memoryAfter, cacheAfter, answers, ans
 use Rattle.coherence.specs.Demand3.{Demand3, Demand3Holds, ordersIn, ordersGiven, reply, Each}
 use Rattle.coherence.proofs.Sessions.{sessions}
 use Rattle.coherence.proofs.Theorem.{demand3}
-use Rattle.tape.specs.declared.record.Record.{Record}
-use Rattle.tape.specs.declared.record.Record.the-variants as rec
-use Rattle.tape.specs.Record.{kindOf}
+use Rattle.tape_format.specs.declared.Record.{Record}
+use Rattle.tape_format.specs.declared.Record.the-variants as rec
+use Rattle.tape_format.specs.Record.{kindOf}
 use Rattle.reading.specs.Reading.{Started, readAll, accessOf, andCalls, callsOf}
 use Rattle.reading.specs.Claims.{AllAccepted}
 use Rattle.reading.proofs.ReadingLaws.{claims as reading}

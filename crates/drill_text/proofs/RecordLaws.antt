@@ -6,11 +6,11 @@ use mathlib.Core.Bool.{true}
 use mathlib.Core.List.{List, _∷_}
 use lib.ListN.{length}
 use Rattle.coherence.proofs.PlainLaws.{load-accepted, store-accepted, flush-accepted}
-use Rattle.tape.specs.declared.record.Record.{Record}
-use Rattle.tape.specs.declared.record.Record.the-variants as rec
-use Rattle.tape.specs.declared.record.RecordRead.the-variants as read
-use Rattle.tape.specs.Record.{recordAt, kindOf, fieldsOf}
-use Rattle.tape.specs.Write.{valid}
+use Rattle.tape_format.specs.declared.Record.{Record}
+use Rattle.tape_format.specs.declared.Record.the-variants as rec
+use Rattle.tape_format.specs.declared.RecordRead.the-variants as read
+use Rattle.tape_format.specs.Record.{recordAt, kindOf, fieldsOf}
+use Rattle.tape_format.specs.Write.{valid}
 use Rattle.reading.specs.Reading.{accessOf}
 use Rattle.reading.proofs.RecordLaws.{value-below, valid-accepted, record-valid, record-long}
 use Rattle.drill_text.specs.Writing.{Short, lineMost}

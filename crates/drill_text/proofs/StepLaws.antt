@@ -11,7 +11,7 @@ use Rattle.coherence.specs.declared.Answer.{Answer}
 use Rattle.coherence.specs.Calls.{answer, answers, memoryAfter, cacheAfter}
 use Rattle.coherence.specs.Demand3.{ordersIn, ordersGiven}
 use Rattle.coherence.proofs.Counts.{answers-orders}
-use Rattle.tape.specs.declared.record.Record.{Record}
+use Rattle.tape_format.specs.declared.Record.{Record}
 use Rattle.reading.specs.declared.Access.the-variants.{Asks, Other}
 use Rattle.drill_text.specs.declared.run.Progress.{Progress}
 use Rattle.reading.specs.Reading.{Ending, andMore, andCalls, callsOf, accessOf}

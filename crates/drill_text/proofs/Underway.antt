@@ -5,10 +5,10 @@ use native.Mathlib.Omega.{arith}
 use mathlib.Core.Path.{_≡_, refl, _∙_}
 use mathlib.Core.List.{List, [], _++_, append-assoc}
 use lib.ListN.{length}
-use Rattle.tape.specs.declared.record.Record.{Record}
-use Rattle.tape.specs.declared.record.RecordRead.{RecordRead}
-use Rattle.tape.specs.declared.record.RecordRead.the-variants as read
-use Rattle.tape.specs.Record.{recordAt}
+use Rattle.tape_format.specs.declared.Record.{Record}
+use Rattle.tape_format.specs.declared.RecordRead.{RecordRead}
+use Rattle.tape_format.specs.declared.RecordRead.the-variants as read
+use Rattle.tape_format.specs.Record.{recordAt}
 use Rattle.coherence.specs.Calls.{answers}
 use Rattle.coherence.specs.Demand3.{ordersGiven}
 use Rattle.drill_text.specs.declared.run.Progress.{Progress}

@@ -9,7 +9,7 @@ use Rattle.order.specs.Refusal.{accepted}
 use Rattle.coherence.specs.declared.Answer.{Answer}
 use Rattle.coherence.specs.PlainMemory.{plainReplies}
 use Rattle.coherence.specs.Demand3.{ordersIn, ordersGiven, reply, loads, stores, Each}
-use Rattle.tape.specs.Record.{kindOf}
+use Rattle.tape_format.specs.Record.{kindOf}
 use Rattle.reading.specs.Reading.{Started, readAll}
 use Rattle.drill_text.specs.Drill.{zeroStore, callsIn, answersIn}
 

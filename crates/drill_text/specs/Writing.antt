@@ -9,7 +9,7 @@ use Rattle.coherence.specs.declared.Call.the-variants.{Load, Store, Flush}
 use Rattle.coherence.specs.declared.Directory.{Directory}
 use Rattle.coherence.specs.Calls.{answer, answers, memoryAfter, cacheAfter}
 use Rattle.coherence.specs.Demand3.{ordersIn, ordersGiven}
-use Rattle.tape.specs.declared.record.Record.{Record}
+use Rattle.tape_format.specs.declared.Record.{Record}
 use Rattle.reading.specs.declared.Access.{Access}
 use Rattle.reading.specs.declared.Access.the-variants.{Asks, Other}
 use Rattle.drill_text.specs.declared.run.Progress.{Progress}

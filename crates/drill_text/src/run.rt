@@ -14,9 +14,9 @@ use coherence::Directory;
 use machine::run;
 use reading::Access;
 use reading::access_of;
-use tape::Record;
-use tape::RecordRead;
 use tape::read_record;
+use tape_format::Record;
+use tape_format::RecordRead;
 
 // A drill underway: the machine's directory, the place in the text, and the calls and orders so far.
 pub struct Progress {

@@ -2,6 +2,7 @@
 use Prim.Native.Nat.{ℕ, _<_, _≤_}
 use mathlib.Core.Path.{_≡_, refl, sym, _∙_, ap}
 use mathlib.Core.Bool.{Bool, true, false}
+use mathlib.Core.Logic.{_≢_}
 use mathlib.Core.Option.{Option, none, some, Option·elim}
 use mathlib.Core.List.{List, [], _∷_}
 use native.Mathlib.Omega.{arith}
@@ -12,15 +13,27 @@ use Rattle.handler.specs.declared.Class.the-variants.{High, Low}
 use Rattle.handler.specs.declared.Lock.{Lock}
 use Rattle.handler.specs.declared.Lock.the-variants.{Free, Owner}
 use Rattle.handler.specs.declared.State.{State}
+use Rattle.handler.specs.declared.Grant.the-variants.{Nobody}
 use Rattle.handler.specs.declared.Arbitration.{Arbitration}
-use Rattle.handler.specs.Handler.{lastUnit, ownerOf, requests, unitGranted, lockNext, locked, distance, moved, granted, nobody, refused, arbitration, initial}
+use Rattle.handler.specs.Handler.{lastUnit, ownerOf, requests, unitGranted, lockNext, locked, distance, moved, granted, nobody, allowed, refused, arbitration, initial}
 use Rattle.numeric.specs.Bits.{contains}
 use Rattle.handler.specs.Waiting.{Input, Call, answer, calls, each}
-use Rattle.handler.specs.Rule.{LockRule, FirstUpward, GrantsFirst, isOwnerLast, OwnerIsLast}
+use Rattle.handler.specs.Rule.{RefusedKeeps, LockRule, FirstUpward, GrantsFirst, isOwnerLast, OwnerIsLast}
 use Rattle.handler.proofs.Allowed.{last-allowed, call-state-allowed}
 use Rattle.handler.proofs.StateParts.{owner-of, no-owner, lock-moved}
 use Rattle.handler.proofs.GrantCases.{Ruling, refusing, granting, nothing-to-grant, ruling}
 use Rattle.handler.proofs.HandlerLaws.{accepted-allowed, lock-first, granted-accepted, granted-asks, granted-nearest}
+
+-- ---- a refused call
+
+pub refused-keeps : RefusedKeeps
+unfolding RefusedKeeps arbitration refused
+refused-keeps s high low lck = on (allowed s high low) refl
+  where
+    on : (t : Bool) → allowed s high low ≡ t → arbitration s high low lck .refusal ≢ 0 →
+        arbitration s high low lck ≡ record { refusal = 10; grant = Nobody; state = s }
+    on true e n = absurd (n (accepted-allowed s high low lck .1 e))
+    on false e n = rw e
 
 -- ---- the lock
 

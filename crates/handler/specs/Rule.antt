@@ -3,6 +3,7 @@
 use Prim.Native.Nat.{ℕ, _<_, _≤_}
 use mathlib.Core.Path.{_≡_}
 use mathlib.Core.Bool.{Bool, true, false}
+use mathlib.Core.Logic.{_≢_}
 use mathlib.Core.Option.{none, some, Option·elim}
 use mathlib.Core.List.{List}
 use lib.Dec.{eqb}
@@ -10,9 +11,15 @@ use Rattle.order.specs.Refusal.{accepted}
 use Rattle.handler.specs.declared.Class.{Class}
 use Rattle.handler.specs.declared.Class.the-variants.{Low}
 use Rattle.handler.specs.declared.State.{State}
+use Rattle.handler.specs.declared.Grant.the-variants.{Nobody}
 use Rattle.handler.specs.Handler.{lastUnit, ownerOf, requests, unitGranted, arbitration, initial}
 use Rattle.numeric.specs.Bits.{contains}
 use Rattle.handler.specs.Waiting.{Input, Call, answer, calls, each}
+
+-- a refused call "gives its number, .. no grant, .. and leaves .. handler state": the whole answer. `accepted-exactly` says which calls are refused
+unfoldable pub RefusedKeeps : Type 0
+RefusedKeeps = (s : State) (high low : ℕ) (lck : Bool) → arbitration s high low lck .refusal ≢ 0 →
+    arbitration s high low lck ≡ record { refusal = 10; grant = Nobody; state = s }
 
 -- the owner that an accepted call leaves
 pub record LockRule (s : State) (high low : ℕ) : Type 0 where

@@ -2,7 +2,7 @@
 use Prim.Native.Nat.{ℕ, zero, suc, _<_, _%_}
 use mathlib.Core.Path.{_≡_, refl, sym, ap, _∙_}
 use mathlib.Core.Bool.{Bool, true, not, _&&_, _||_, and-eq-true-iff}
-use mathlib.Core.List.{List}
+use mathlib.Core.List.{List, map}
 use native.Mathlib.Omega.{arith}
 use lib.Dec.{eqb}
 use lib.ListN.{getD}
@@ -10,7 +10,7 @@ use borrow.Author.Count.{below-none, below-more}
 use borrow.Author.Tests.{eqb-true}
 use Rattle.jbus.specs.declared.device.Device.{Device}
 use Rattle.jbus.specs.declared.device.Device.the-variants.{Processor, NotSupported, Illegal, Bridge0, Bridge1}
-use Rattle.jbus.specs.Device.{lowBits, inRow, byRow, deviceOf, OneDevice}
+use Rattle.jbus.specs.Device.{lowBits, inRow, byRow, deviceOf, deviceNumber, DevicesNumbered, OneDevice}
 
 -- ---- a test of all numbers below n
 
@@ -71,6 +71,10 @@ one-device agent l = record { its = parts Processor .0; noOther = other }
     other d e =
         let same : eqb (least d) (least (deviceOf agent)) ≡ true = rw e at (parts d .1) in
         apart d (deviceOf agent) (eqb-true _ _ same)
+
+pub devices-numbered : DevicesNumbered
+unfolding DevicesNumbered deviceNumber
+devices-numbered = refl
 
 -- ---- a table by the low four bits
 

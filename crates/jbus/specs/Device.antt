@@ -2,6 +2,7 @@
 use Prim.Native.Nat.{ℕ, _%_, _^_}
 use mathlib.Core.Path.{_≡_}
 use mathlib.Core.Bool.{Bool, true, cond, _&&_, _||_}
+use mathlib.Core.List.{[], _∷_, map}
 use lib.Dec.{leb}
 use Rattle.jbus.specs.declared.device.Device.{Device}
 use Rattle.jbus.specs.declared.device.Device.the-variants.{Processor, NotSupported, Illegal, Bridge0, Bridge1}
@@ -28,6 +29,17 @@ byRow n =
 
 unfoldable pub deviceOf : ℕ → Device
 deviceOf agent = byRow (lowBits agent)
+
+-- the devices by number, in the order of document 02's list; the numbers are ours
+unfoldable pub deviceNumber : Device → ℕ
+deviceNumber Processor = 0
+deviceNumber NotSupported = 1
+deviceNumber Illegal = 2
+deviceNumber Bridge0 = 3
+deviceNumber Bridge1 = 4
+
+unfoldable pub DevicesNumbered : Type 0
+DevicesNumbered = map deviceNumber (Processor ∷ NotSupported ∷ Illegal ∷ Bridge0 ∷ Bridge1 ∷ []) ≡ 0 ∷ 1 ∷ 2 ∷ 3 ∷ 4 ∷ []
 
 -- every agent has exactly one device
 pub record OneDevice (agent : ℕ) : Type 0 where

@@ -10,7 +10,7 @@ use Rattle.jbus.specs.declared.interrupt.InterruptRead.{InterruptRead}
 use Rattle.jbus.specs.declared.interrupt.InterruptRead.the-variants as read
 use Rattle.jbus.specs.declared.interrupt.CycleWritten.{CycleWritten}
 use Rattle.jbus.specs.declared.interrupt.CycleWritten.the-variants as wrote
-use Rattle.jbus.specs.Device.{deviceOf}
+use Rattle.jbus.specs.Device.{deviceOf, deviceNumber}
 
 -- ---- the fields of a half
 
@@ -78,10 +78,10 @@ interruptOf half = record { target = targetOf half; agent = agentOf half; device
 unfoldable pub interruptRead : AddressCycle → InterruptRead
 interruptRead c = cond (eqb (readRefusal c) accepted) (read.Interrupt (interruptOf (c .lower))) (read.Refused (readRefusal c))
 
--- the answer in numbers: refusal, target, agent; refused, the others are 0
+-- the answer in numbers: refusal, target, agent, device; refused, the others are 0
 unfoldable pub readTold : InterruptRead → List ℕ
-readTold (read.Interrupt i) = accepted ∷ i .target ∷ i .agent ∷ []
-readTold (read.Refused n) = n ∷ 0 ∷ 0 ∷ []
+readTold (read.Interrupt i) = accepted ∷ i .target ∷ i .agent ∷ deviceNumber (i .device) ∷ []
+readTold (read.Refused n) = n ∷ 0 ∷ 0 ∷ 0 ∷ []
 
 -- ---- writing
 

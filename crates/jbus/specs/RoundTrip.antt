@@ -8,7 +8,7 @@ use Rattle.jbus.specs.declared.interrupt.AddressCycle.{AddressCycle}
 use Rattle.jbus.specs.declared.interrupt.Interrupt.{Interrupt}
 use Rattle.jbus.specs.declared.interrupt.InterruptRead.the-variants as read
 use Rattle.jbus.specs.declared.interrupt.CycleWritten.the-variants as wrote
-use Rattle.jbus.specs.Device.{deviceOf}
+use Rattle.jbus.specs.Device.{deviceOf, deviceNumber}
 use Rattle.jbus.specs.Interrupt.{transactionOf, reservedOf, targetOf, agentOf, lowReservedOf, interruptOf, interruptRead, readTold, halfOf, cycleOf, cycleWritten, writtenTold}
 
 -- what an accepted cycle is, in the paper's own numbers
@@ -26,9 +26,9 @@ pub record ReadsExactly (c : AddressCycle) : Type 0 where
   pub told : readTold (interruptRead c)
       ≡ cond (eqb (c .upper) (c .lower))
       (cond (eqb (transactionOf (c .lower)) 0x14)
-      (cond (eqb (reservedOf (c .lower)) 0 && eqb (lowReservedOf (c .lower)) 0) (0 ∷ targetOf (c .lower) ∷ agentOf (c .lower) ∷ []) (8 ∷ 0 ∷ 0 ∷ []))
-      (7 ∷ 0 ∷ 0 ∷ []))
-      (17 ∷ 0 ∷ 0 ∷ [])
+      (cond (eqb (reservedOf (c .lower)) 0 && eqb (lowReservedOf (c .lower)) 0) (0 ∷ targetOf (c .lower) ∷ agentOf (c .lower) ∷ deviceNumber (deviceOf (agentOf (c .lower))) ∷ []) (8 ∷ 0 ∷ 0 ∷ 0 ∷ []))
+      (7 ∷ 0 ∷ 0 ∷ 0 ∷ []))
+      (17 ∷ 0 ∷ 0 ∷ 0 ∷ [])
 
 -- numbers up to 31 are written, and no other
 pub record WritesExactly (target agent : ℕ) : Type 0 where

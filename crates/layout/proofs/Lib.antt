@@ -1,3 +1,4 @@
 pub mod DirectoryLaws
 pub mod AnswerLaws
 pub mod Inverse
+pub mod Examples

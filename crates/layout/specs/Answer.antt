@@ -1,7 +1,9 @@
 -- A call's answer as numbers: the value, how many orders, and the four places of the answer's list.
 use Prim.Native.Nat.{ℕ, zero, suc}
 use mathlib.Core.List.{List, [], _∷_, _++_}
-use lib.ListN.{getD}
+use mathlib.Core.Bool.{cond}
+use lib.ListN.{length, getD, drop}
+use lib.Dec.{leb}
 use Rattle.order.specs.declared.Order.{Order}
 use Rattle.order.specs.Command.{commandNumber}
 use Rattle.order.specs.Flag.{flag}
@@ -23,3 +25,8 @@ ordersNumbers (suc n) os = ordersNumbers n os ++ orderNumbers (getD os n noOrder
 
 unfoldable pub answerNumbers : Answer → List ℕ
 answerNumbers a = (a .value ∷ a .orders .count ∷ []) ++ ordersNumbers 4 (a .orders .list)
+
+-- the numbers put into the first places of a lent space; it stays if it is too small, or if the answer counts more orders than its list has places
+unfoldable pub answerPut : Answer → List ℕ → List ℕ
+answerPut a o =
+    cond (leb answerSize (length o)) (cond (leb (a .orders .count) 4) (answerNumbers a ++ drop answerSize o) o) o

@@ -3,7 +3,7 @@ use Prim.Native.Nat.{ℕ, zero, suc, _+_, _*_, _/_, _%_, _<_}
 use mathlib.Core.Path.{_≡_}
 use mathlib.Core.Bool.{true, cond, not, _&&_}
 use mathlib.Core.List.{List, [], _∷_, _++_}
-use lib.ListN.{length, getD, replicate}
+use lib.ListN.{length, getD, drop, replicate}
 use lib.Dec.{leb, eqb}
 use Rattle.coherence.specs.declared.Slot.{Slot}
 use Rattle.coherence.specs.declared.Slot.the-variants.{Invalid, Shared, Modified}
@@ -28,6 +28,10 @@ slotBytes (suc n) d = slotBytes n d ++ (stateOf (slotAt d n) ∷ blockOf (slotAt
 
 unfoldable pub encoded : Directory → List ℕ
 encoded d = slotBytes 64 d
+
+-- the bytes put into the first places of a lent space; it stays if it is too small
+unfoldable pub directoryPut : Directory → List ℕ → List ℕ
+directoryPut d o = cond (leb directorySize (length o)) (encoded d ++ drop directorySize o) o
 
 -- what a pair of bytes that spells no slot is taken for: a block above 63, so that the machine refuses the directory as broken
 abbrev pub noSlot : Slot

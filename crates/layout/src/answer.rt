@@ -4,11 +4,10 @@ use order::Order;
 use order::command_number;
 use order::flag_number;
 ghost use mathlib.Core.Path.{_≡_};
-ghost use mathlib.Core.List.{_++_};
 ghost use Prim.Native.Nat.{_+_, _≤_};
-ghost use lib.ListN.{length, drop};
+ghost use lib.ListN.{length};
 ghost use lib.Seq.{sets};
-ghost use Rattle.layout.specs.Answer.{answerSize, orderNumbers, answerNumbers};
+ghost use Rattle.layout.specs.Answer.{orderNumbers, answerPut};
 
 // An order's four numbers, from `at` on.
 fn put_order(o: Order, out: &mut [u32], at: usize)
@@ -22,12 +21,17 @@ fn put_order(o: Order, out: &mut [u32], at: usize)
     out[at + 3] = flag_number(o.retried) as u32;
 }
 
-// An answer's numbers, into the first places of the lent space.
+// An answer's numbers, into the first places of the lent space. It stays if it is too small, or if the answer counts more orders than it has places.
 pub fn put_answer(a: Answer, out: &mut [u32])
-    requires { ⌜ (a .orders .count ≤ 4) × (answerSize ≤ length (now out)) ⌝ }
-    ensures { λ _. ⌜ now (out .exit) ≡ answerNumbers a ++ drop answerSize (now (out .entry)) ⌝ }
+    ensures { λ _. ⌜ now (out .exit) ≡ answerPut a (now (out .entry)) ⌝ }
 {
     let orders = a.orders;
+    if out.len() < 18 {
+        return;
+    }
+    if orders.count > 4 {
+        return;
+    }
     let list = orders.list;
     let mut n = 0;
     while n < 4 {

@@ -3,11 +3,10 @@ use coherence::Directory;
 use coherence::Entry;
 use coherence::Slot;
 ghost use mathlib.Core.Path.{_≡_};
-ghost use mathlib.Core.List.{_++_};
-ghost use Prim.Native.Nat.{ℕ, _/_, _%_, _≤_};
-ghost use lib.ListN.{length, drop};
+ghost use Prim.Native.Nat.{_/_, _%_};
+ghost use lib.ListN.{length};
 ghost use Rattle.coherence.specs.Slots.{blockOf};
-ghost use Rattle.layout.specs.Directory.{stateOf, Paired, blockSpelled, slotSpelled, decoded, encoded};
+ghost use Rattle.layout.specs.Directory.{stateOf, Paired, blockSpelled, slotSpelled, decoded, directoryPut};
 
 // A block that no slot may have.
 const NO_BLOCK: u8 = 255;
@@ -101,11 +100,13 @@ pub fn decode(bytes: &[u8]) -> Directory
     Directory { slots }
 }
 
-// The bytes of a directory, into the first 128 of the lent space.
+// The bytes of a directory, into the first 128 of the lent space. It stays if it is too small.
 pub fn encode(d: Directory, out: &mut [u8])
-    requires { ⌜ 128 ≤ length (now out) ⌝ }
-    ensures { λ _. ⌜ now (out .exit) ≡ encoded d ++ drop 128 (now (out .entry)) ⌝ }
+    ensures { λ _. ⌜ now (out .exit) ≡ directoryPut d (now (out .entry)) ⌝ }
 {
+    if out.len() < 128 {
+        return;
+    }
     let slots = d.slots;
     let mut n = 0;
     while n < 64 {

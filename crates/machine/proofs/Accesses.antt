@@ -20,10 +20,10 @@ use Rattle.coherence.specs.Access.{Run, ready, give, mark, writeBack, copyback,
 use Rattle.coherence.proofs.SlotLaws.{place-lt, holds-invalid}
 use Rattle.slots.specs.Directory.{claimedAtOnce, yieldedDirectory, fetchedDirectory}
 use Rattle.orders.specs.Orders.{order, evictionOrders, askOrders, fetchOrders}
-use Rattle.bytes.specs.Moves.{copied, wordIn, wordPut, evictedMemory, yieldedMemory, fetchedMemory, fetchedCache}
+use Rattle.blocks.specs.Moves.{copied, wordIn, wordPut, evictedMemory, yieldedMemory, fetchedMemory, fetchedCache}
 use Rattle.slots.proofs.Sets.{set-over, set-past, owner-past}
 use Rattle.slots.proofs.Claims.{claim-is}
-use Rattle.bytes.proofs.StoreLaws.{copied-is, word-is, put-is, length-evicted, length-fetched}
+use Rattle.blocks.proofs.StoreLaws.{copied-is, word-is, put-is, length-evicted, length-fetched}
 use Rattle.machine.proofs.Refusals.{Sized, Known, address-of}
 
 -- a machine by its parts

@@ -8,11 +8,11 @@ ghost use Rattle.coherence.specs.declared.Call.the-variants.{Load, Store, Flush
 ghost use Rattle.coherence.specs.Calls.{answer, memoryAfter, cacheAfter, startAnswer, cacheStarted};
 ghost use Rattle.coherence.specs.Refusal.{peekRefusal};
 ghost use Rattle.coherence.specs.Peek.{peeked, peekFromCache, peekOffset};
-use bytes::clear;
-use bytes::evict_bytes;
-use bytes::fetch_bytes;
-use bytes::put_word;
-use bytes::word_at;
+use blocks::clear;
+use blocks::evict_bytes;
+use blocks::fetch_bytes;
+use blocks::put_word;
+use blocks::word_at;
 use coherence::Answer;
 use coherence::Call;
 use coherence::Directory;

@@ -1,14 +1,7 @@
 // What sender and receiver both speak of.
 ghost use mathlib.Core.Path.{_≡_};
-ghost use Rattle.message.specs.Operation.{isSource, starts, ends};
-
-// What an operation is of its message: Table 6, "Message sequence".
-pub enum Sequence {
-    Single,
-    First,
-    Middle,
-    Last,
-}
+ghost use Rattle.message_rules.specs.Operation.{isSource, starts, ends};
+use message_rules::Sequence;
 
 // Whether there are such a sender and such an AID.
 pub(crate) fn is_source(sender: u8, aid: u16) -> bool

@@ -1,11 +1,14 @@
 // The receiving board's side: one operation at a time.
 ghost use mathlib.Core.Path.{_≡_};
-ghost use Rattle.message.specs.Operation.{operation};
-ghost use Rattle.message.specs.Receiver.{stateAllowed, inRange, inTurn, isExpected, startOf, receiveRefusal, taken, receipt, storeAfter};
-use crate::operation::Sequence;
+ghost use Rattle.message_rules.specs.Operation.{operation};
+ghost use Rattle.message_rules.specs.Receiver.{stateAllowed, inRange, inTurn, isExpected, startOf, receiveRefusal, taken, receipt, storeAfter};
 use crate::operation::is_end;
 use crate::operation::is_source;
 use crate::operation::is_start;
+use message_rules::Completion;
+use message_rules::Receipt;
+use message_rules::Receiver;
+use message_rules::Sequence;
 use order::BAD_STATE;
 use order::FIELD_RANGE;
 use order::NO_ROOM;
@@ -13,25 +16,6 @@ use order::OTHER_SOURCE;
 use order::OUT_OF_TURN;
 use order::WRONG_SIZE;
 use text::space::put_word;
-
-// What the receiving board keeps between operations: nothing, or the sender (BMID), the AID and the bytes so far of the message that is being received.
-pub enum Receiver {
-    Idle,
-    Pending { sender: u8, aid: u16, count: usize },
-}
-
-// What an operation completed.
-pub enum Completion {
-    Incomplete,
-    Complete { sender: u8, aid: u16, length: usize },
-}
-
-// The answer to an operation: the number of refusal or 0, the receiver for the next operation, and the message if it is complete.
-pub struct Receipt {
-    pub refusal: u8,
-    pub receiver: Receiver,
-    pub completion: Completion,
-}
 
 // One operation. Its bytes go into the store behind those of the same message. A refused one leaves receiver and store as they were.
 pub fn receive(

@@ -3,23 +3,13 @@ ghost use mathlib.Core.Path.{_≡_};
 ghost use Prim.Native.Nat.{_+_, _*_, _<_, _≤_};
 ghost use lib.ListN.{length};
 ghost use denote.Ref.{ptr};
-ghost use Rattle.message.specs.Sender.{sendRefusal, division, sequenceOf, partOf, operationAt, sequenceFound, partFound, partOffset};
-use crate::operation::Sequence;
+ghost use Rattle.message_rules.specs.Sender.{sendRefusal, division, sequenceOf, partOf, operationAt, sequenceFound, partFound, partOffset};
 use crate::operation::is_source;
+use message_rules::Division;
+use message_rules::Sequence;
+use message_rules::SequenceFound;
 use order::FIELD_RANGE;
 use order::NO_ROOM;
-
-// How many operations a message makes: the number of refusal or 0, and how many.
-pub struct Division {
-    pub refusal: u8,
-    pub operations: usize,
-}
-
-// An operation's part in its message, if there is such an operation.
-pub enum SequenceFound {
-    Known(Sequence),
-    Nothing,
-}
 
 // How many operations the message makes. A refused one makes none.
 pub fn divide(message: &[u8], sender: u8, aid: u16) -> Division

@@ -8,8 +8,8 @@ use crate::store::OTHER;
 use crate::store::fill;
 use crate::store::missing;
 use crate::store::show_changed;
-use message::Receiver;
-use message::SequenceFound;
+use message_rules::Receiver;
+use message_rules::SequenceFound;
 
 // A row for each message: the sender, the AID, and how many bytes.
 const MESSAGES: [[u16; 3]; 16] = [

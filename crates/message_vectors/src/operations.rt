@@ -8,8 +8,8 @@ use crate::print::word;
 use crate::store::OTHER;
 use crate::store::fill;
 use crate::store::show_changed;
-use message::Receiver;
-use message::Sequence;
+use message_rules::Receiver;
+use message_rules::Sequence;
 
 // A row for each operation: the receiver (0 idle, 1 pending) with its sender, AID and count; the store's size; the sequence (0 single, 1 first,
 // 2 middle, 3 last), sender, AID and length of the operation.

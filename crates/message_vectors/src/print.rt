@@ -1,9 +1,9 @@
 // What is passed to sender and receiver, and what they answer, on standard output.
 use libc::STDOUT_FILENO;
-use message::Completion;
-use message::Receipt;
-use message::Receiver;
-use message::Sequence;
+use message_rules::Completion;
+use message_rules::Receipt;
+use message_rules::Receiver;
+use message_rules::Sequence;
 
 pub(crate) fn word(text: &[u8]) {
     io::write_all(STDOUT_FILENO, text);

@@ -1,3 +1,4 @@
+pub mod Examples
 pub mod GroupLaws
 pub mod ReaderLaws
 pub mod NumberLaws

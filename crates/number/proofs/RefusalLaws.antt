@@ -4,15 +4,14 @@ use native.Mathlib.Nat.{zero-add, add-zero, suc-add}
 use native.Mathlib.Omega.{arith}
 use mathlib.Core.Path.{_≡_, refl, sym, ap, _∙_}
 use mathlib.Core.Logic.{_⊎_, inl, inr, ⊎-elim}
-use mathlib.Core.List.{List}
+use mathlib.Core.List.{List, [], _∷_}
 use mathlib.Core.Bool.{Bool, true, false, cond}
 use lib.ListN.{length, getD}
 use lib.Dec.{ltb, leb}
 use borrow.Author.Tests.{ltb-true, ltb-false, leb-true, leb-false}
-use Rattle.order.specs.Refusal.{cut, badNumber}
-use Rattle.number.specs.declared.NumberRead.the-variants.{Number, Refused}
-use Rattle.number.specs.Number.{groups, last, Groups, Value, Cut, Bad, limitOf, carried, readGroups, refusing, numberAt}
-use Rattle.number.specs.Spelling.{GoesOn, Breaks, EndsAfter, RefusedExactly, RefusesExactly}
+use Rattle.number.specs.declared.NumberRead.the-variants.{Refused}
+use Rattle.number.specs.Number.{groups, last, Groups, Value, Cut, Bad, limitOf, carried, readGroups, refusing, numberAt, numberTold}
+use Rattle.number.specs.Spelling.{GoesOn, Breaks, EndsAfter, toldAt, RefusesExactly}
 use Rattle.number.proofs.GroupLaws.{limit-small, step-cut, step-ends, step-more}
 use Rattle.number.proofs.NumberLaws.{inv-read}
 
@@ -179,31 +178,43 @@ cut-ends (suc left) tape at e =
 
 -- ---- the refusals
 
-refusing-bad : (at : ℕ) (g : Groups) → refusing at g ≡ Refused badNumber at → g ≡ Bad
-unfolding refusing
-refusing-bad at (Value v q) e = absurd (let z : _≡_ {A = ℕ} 0 1 = cc in omega arith)
-refusing-bad at Cut e = absurd (let z : _≡_ {A = ℕ} cut badNumber = cc in omega arith)
-refusing-bad at Bad e = refl
+-- a refused number is refused with 5 or 6, at its start
+pub refused-at : (tape : List ℕ) (at number place : ℕ) → numberAt tape at ≡ Refused number place → place ≡ at
+unfolding numberAt refusing
+refused-at tape at number place e = go (readGroups last groups tape at) e
+  where
+    go : (g : Groups) → refusing at g ≡ Refused number place → place ≡ at
+    go (Value v q) e = absurd (let z : _≡_ {A = ℕ} 0 1 = cc in omega arith)
+    go Cut e = cc
+    go Bad e = cc
 
-refusing-cut : (at : ℕ) (g : Groups) → refusing at g ≡ Refused cut at → g ≡ Cut
-unfolding refusing
-refusing-cut at (Value v q) e = absurd (let z : _≡_ {A = ℕ} 0 1 = cc in omega arith)
-refusing-cut at Cut e = refl
-refusing-cut at Bad e = absurd (let z : _≡_ {A = ℕ} badNumber cut = cc in omega arith)
+told-bad : (at : ℕ) (g : Groups) → numberTold (refusing at g) .refusal ≡ 6 → g ≡ Bad
+unfolding refusing numberTold
+told-bad at (Value v q) e = absurd (omega arith)
+told-bad at Cut e = absurd (omega arith)
+told-bad at Bad e = refl
 
-refusing-only : (at : ℕ) (g : Groups) (number place : ℕ) → refusing at g ≡ Refused number place → (place ≡ at) × ((number ≡ cut) ⊎ (number ≡ badNumber))
-unfolding refusing
-refusing-only at (Value v q) number place e = absurd (let z : _≡_ {A = ℕ} 0 1 = cc in omega arith)
-refusing-only at Cut number place e = (cc, inl cc)
-refusing-only at Bad number place e = (cc, inr cc)
+told-cut : (at : ℕ) (g : Groups) → numberTold (refusing at g) .refusal ≡ 5 → g ≡ Cut
+unfolding refusing numberTold
+told-cut at (Value v q) e = absurd (omega arith)
+told-cut at Cut e = refl
+told-cut at Bad e = absurd (omega arith)
+
+told-only : (at : ℕ) (g : Groups)
+    → ((v : ℕ) × (next : ℕ) × (numberTold (refusing at g) ≡ record { refusal = 0; place = next; numbers = v ∷ [] }))
+    ⊎ ((numberTold (refusing at g) ≡ record { refusal = 6; place = at; numbers = [] }) ⊎ (numberTold (refusing at g) ≡ record { refusal = 5; place = at; numbers = [] }))
+unfolding refusing numberTold
+told-only at (Value v q) = inl (v, q, refl)
+told-only at Cut = inr (inr refl)
+told-only at Bad = inr (inl refl)
 
 pub refuses-exactly : RefusesExactly
-unfolding RefusesExactly numberAt refusing
+unfolding RefusesExactly toldAt numberAt refusing numberTold
 refuses-exactly tape at =
     record {
-      bad = λ e. bad-breaks (groups - 1) tape at (refusing-bad at (readGroups last groups tape at) e);
-      broken = λ k q. ap (refusing at) (breaks-bad groups tape at k q);
-      cuts = λ e. cut-ends (groups - 1) tape at (refusing-cut at (readGroups last groups tape at) e);
-      ended = λ k q. ap (refusing at) (ends-cut groups tape at k q);
-      only = refusing-only at (readGroups last groups tape at);
+      bad = λ e. bad-breaks (groups - 1) tape at (told-bad at (readGroups last groups tape at) e);
+      broken = λ k q. ap (λ (g : Groups). numberTold (refusing at g)) (breaks-bad groups tape at k q);
+      cuts = λ e. cut-ends (groups - 1) tape at (told-cut at (readGroups last groups tape at) e);
+      ended = λ k q. ap (λ (g : Groups). numberTold (refusing at g)) (ends-cut groups tape at k q);
+      only = told-only at (readGroups last groups tape at);
     }

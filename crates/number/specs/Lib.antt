@@ -1,3 +1,4 @@
 -- Numbers as bytes.
 pub mod Number
 pub mod Spelling
+pub mod Examples

@@ -3,11 +3,9 @@
 use Prim.Native.Nat.{ℕ, _+_, _≤_, _<_}
 use mathlib.Core.Path.{_≡_}
 use mathlib.Core.Logic.{_⊎_}
-use mathlib.Core.List.{List}
+use mathlib.Core.List.{List, [], _∷_}
 use lib.ListN.{length, getD}
-use Rattle.order.specs.Refusal.{cut, badNumber}
-use Rattle.number.specs.declared.NumberRead.the-variants.{Number, Refused}
-use Rattle.number.specs.Number.{groups, last, numberAt}
+use Rattle.number.specs.Number.{numberAt, Told, numberTold}
 
 -- the k bytes from a place on are on the tape, each with its high bit set
 pub record GoesOn (tape : List ℕ) (at k : ℕ) : Type 0 where
@@ -19,7 +17,7 @@ pub record Breaks (n : ℕ) (tape : List ℕ) (at k : ℕ) : Type 0 where
   pub within : k < n
   pub before : GoesOn tape at k
   pub there : at + k < length tape
-  pub broken : ((0 < k) × (getD tape (at + k) 0 ≡ 0)) ⊎ ((k + 1 ≡ n) × (last < getD tape (at + k) 0))
+  pub broken : ((0 < k) × (getD tape (at + k) 0 ≡ 0)) ⊎ ((k + 1 ≡ n) × (15 < getD tape (at + k) 0))
 
 -- the tape ends after k groups, and none of them was the last
 pub record EndsAfter (n : ℕ) (tape : List ℕ) (at k : ℕ) : Type 0 where
@@ -27,13 +25,19 @@ pub record EndsAfter (n : ℕ) (tape : List ℕ) (at k : ℕ) : Type 0 where
   pub before : GoesOn tape at k
   pub ends : length tape ≤ at + k
 
+-- the number that starts at a place, in document 01's numbers: "At most five groups"
+unfoldable pub toldAt : List ℕ → ℕ → Told
+toldAt tape at = numberTold (numberAt tape at)
+
 pub record RefusedExactly (tape : List ℕ) (at : ℕ) : Type 0 where
-  pub bad : numberAt tape at ≡ Refused badNumber at → (k : ℕ) × Breaks groups tape at k
-  pub broken : (k : ℕ) → Breaks groups tape at k → numberAt tape at ≡ Refused badNumber at
-  pub cuts : numberAt tape at ≡ Refused cut at → (k : ℕ) × EndsAfter groups tape at k
-  pub ended : (k : ℕ) → EndsAfter groups tape at k → numberAt tape at ≡ Refused cut at
+  pub bad : toldAt tape at .refusal ≡ 6 → (k : ℕ) × Breaks 5 tape at k
+  pub broken : (k : ℕ) → Breaks 5 tape at k → toldAt tape at ≡ record { refusal = 6; place = at; numbers = [] }
+  pub cuts : toldAt tape at .refusal ≡ 5 → (k : ℕ) × EndsAfter 5 tape at k
+  pub ended : (k : ℕ) → EndsAfter 5 tape at k → toldAt tape at ≡ record { refusal = 5; place = at; numbers = [] }
   -- there is no other refusal, and no other place
-  pub only : (number place : ℕ) → numberAt tape at ≡ Refused number place → (place ≡ at) × ((number ≡ cut) ⊎ (number ≡ badNumber))
+  pub only :
+      ((v : ℕ) × (next : ℕ) × (toldAt tape at ≡ record { refusal = 0; place = next; numbers = v ∷ [] }))
+      ⊎ ((toldAt tape at ≡ record { refusal = 6; place = at; numbers = [] }) ⊎ (toldAt tape at ≡ record { refusal = 5; place = at; numbers = [] }))
 
 unfoldable pub RefusesExactly : Type 0
 RefusesExactly = (tape : List ℕ) (at : ℕ) → RefusedExactly tape at

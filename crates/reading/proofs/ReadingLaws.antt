@@ -8,11 +8,11 @@ use mathlib.Core.List.{List, [], _∷_, map}
 use lib.ListN.{length}
 use Rattle.coherence.specs.declared.Call.{Call}
 use Rattle.coherence.specs.PlainMemory.{plainAccepts}
-use Rattle.tape.specs.declared.record.Record.{Record}
-use Rattle.tape.specs.declared.record.RecordRead.{RecordRead}
-use Rattle.tape.specs.declared.record.RecordRead.the-variants as read
-use Rattle.tape.specs.Record.{recordAt}
-use Rattle.tape.specs.RoundTrip.{ReadsAs}
+use Rattle.tape_format.specs.declared.Record.{Record}
+use Rattle.tape_format.specs.declared.RecordRead.{RecordRead}
+use Rattle.tape_format.specs.declared.RecordRead.the-variants as read
+use Rattle.tape_format.specs.Record.{recordAt}
+use Rattle.tape_format.specs.RoundTrip.{ReadsAs}
 use Rattle.reading.specs.declared.Access.{Access}
 use Rattle.reading.specs.declared.Access.the-variants.{Asks, Other}
 use Rattle.reading.specs.Reading.{Started, Ending, finished, andMore, readOn, readFrom, readAll, accessOf, andCalls, callsOf}

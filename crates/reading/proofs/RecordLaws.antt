@@ -10,18 +10,18 @@ use lib.ListN.{length}
 use borrow.Author.Tests.{leb-true}
 use Rattle.coherence.specs.PlainMemory.{plainAccepts}
 use Rattle.number.proofs.NumberLaws.{number-moves}
-use Rattle.tape.specs.declared.record.Record.{Record}
-use Rattle.tape.specs.declared.record.Record.the-variants as rec
-use Rattle.tape.specs.declared.record.RecordRead.the-variants as read
-use Rattle.tape.specs.Field.{allowed}
-use Rattle.tape.specs.Record.{recordAt, kindOf, fieldsOf, layoutOf, store, fits}
-use Rattle.tape.specs.Refused.{Reads}
-use Rattle.tape.specs.Write.{valid}
-use Rattle.tape.specs.RoundTrip.{MovesOn}
-use Rattle.tape.proofs.FieldLaws.{both-true}
-use Rattle.tape.proofs.WriteLaws.{valid-load, valid-store, valid-flush}
-use Rattle.tape.proofs.LayoutLaws.{record-taken}
-use Rattle.tape.proofs.RoundTrip.{moves-on}
+use Rattle.tape_format.specs.declared.Record.{Record}
+use Rattle.tape_format.specs.declared.Record.the-variants as rec
+use Rattle.tape_format.specs.declared.RecordRead.the-variants as read
+use Rattle.tape_format.specs.Field.{allowed}
+use Rattle.tape_format.specs.Record.{recordAt, kindOf, fieldsOf, layoutOf, store, fits}
+use Rattle.tape_format.specs.Refused.{Reads}
+use Rattle.tape_format.specs.Write.{valid}
+use Rattle.tape_format.specs.RoundTrip.{MovesOn}
+use Rattle.tape_format.proofs.FieldLaws.{both-true}
+use Rattle.tape_format.proofs.WriteLaws.{valid-load, valid-store, valid-flush}
+use Rattle.tape_format.proofs.LayoutLaws.{record-taken}
+use Rattle.tape_format.proofs.RoundTrip.{moves-on}
 use Rattle.reading.specs.declared.Access.{Access}
 use Rattle.reading.specs.declared.Access.the-variants.{Asks, Other}
 use Rattle.reading.specs.Reading.{accessOf}

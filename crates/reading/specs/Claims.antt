@@ -6,10 +6,10 @@ use mathlib.Core.List.{List, [], _∷_, map}
 use lib.ListN.{length}
 use Rattle.coherence.specs.declared.Call.{Call}
 use Rattle.coherence.specs.PlainMemory.{plainAccepts}
-use Rattle.tape.specs.declared.record.Record.{Record}
-use Rattle.tape.specs.declared.record.RecordRead.the-variants as read
-use Rattle.tape.specs.Record.{recordAt}
-use Rattle.tape.specs.RoundTrip.{ReadsAs}
+use Rattle.tape_format.specs.declared.Record.{Record}
+use Rattle.tape_format.specs.declared.RecordRead.the-variants as read
+use Rattle.tape_format.specs.Record.{recordAt}
+use Rattle.tape_format.specs.RoundTrip.{ReadsAs}
 use Rattle.reading.specs.Reading.{Started, Ending, finished, refused, readFrom, readAll, callsOf}
 
 -- from a place on, the tape reads as the records, each from where the one before ended, and then so ends

@@ -5,11 +5,11 @@ use mathlib.Core.List.{List, [], _∷_}
 use lib.ListN.{length}
 use Rattle.coherence.specs.declared.Call.{Call}
 use Rattle.coherence.specs.declared.Call.the-variants as call
-use Rattle.tape.specs.declared.record.Record.{Record}
-use Rattle.tape.specs.declared.record.Record.the-variants as rec
-use Rattle.tape.specs.declared.record.RecordRead.{RecordRead}
-use Rattle.tape.specs.declared.record.RecordRead.the-variants as read
-use Rattle.tape.specs.Record.{recordAt}
+use Rattle.tape_format.specs.declared.Record.{Record}
+use Rattle.tape_format.specs.declared.Record.the-variants as rec
+use Rattle.tape_format.specs.declared.RecordRead.{RecordRead}
+use Rattle.tape_format.specs.declared.RecordRead.the-variants as read
+use Rattle.tape_format.specs.Record.{recordAt}
 use Rattle.reading.specs.declared.Access.{Access}
 use Rattle.reading.specs.declared.Access.the-variants as access
 

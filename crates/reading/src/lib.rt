@@ -1,6 +1,6 @@
 // A tape read whole: the call that a record asks of the machine.
 use coherence::Call;
-use tape::Record;
+use tape_format::Record;
 ghost use mathlib.Core.Path.{_≡_};
 ghost use Rattle.reading.specs.Reading.{accessOf};
 

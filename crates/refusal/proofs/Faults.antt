@@ -13,11 +13,11 @@ use Rattle.coherence.specs.declared.Slot.{Slot}
 use Rattle.coherence.specs.declared.Slot.the-variants.{Invalid, Shared, Modified}
 use Rattle.coherence.specs.declared.Entry.{Entry}
 use Rattle.coherence.specs.declared.Directory.{Directory}
-use Rattle.coherence.specs.Slots.{emptyEntry, slotAt, slotOf, blockOf, holds, sound, Exclusive, Rules}
+use Rattle.coherence.specs.Slots.{emptyEntry, slotAt, slotOf, blockOf, stateNumber, holds, sound, Exclusive, Rules}
 use Rattle.coherence.proofs.Cases.{four, eq-or-ne, lt-or-le, true-or-false}
 use Rattle.coherence.proofs.SlotLaws.{holds-is, shared-holds, modified-holds}
 use Rattle.coherence.proofs.Rules.{tests-rules}
-use Rattle.refusal.specs.Soundness.{rankOf, blockOr, misplacedIn, conflictOf, placeFaults, pairFaults, faultsOf}
+use Rattle.refusal.specs.Soundness.{blockOr, misplacedIn, conflictOf, placeFaults, pairFaults, faultsOf}
 use Rattle.numeric.specs.Bits.{sumBelow}
 
 -- the faults of the four units' slots s
@@ -103,7 +103,7 @@ modified-not : (b c : ℕ) → holds (Modified c) b ≡ false → c ≡ b → �
 modified-not b c h e = false≢true (sym h ∙ modified-holds (Modified c) b (ap Modified e))
 
 pair-none : (s : ℕ) (x y : Slot) → Apart x y → Apart y x → pairFaults s x y ≡ 0
-unfolding pairFaults Apart rankOf blockOr
+unfolding pairFaults Apart stateNumber blockOr
 pair-none s Invalid Invalid g h = conflict-low s 0 s 0 (omega arith)
 pair-none s Invalid (Shared c) g h = conflict-low s 0 c 1 (omega arith)
 pair-none s Invalid (Modified c) g h = conflict-low s 0 c 2 (omega arith)
@@ -121,7 +121,7 @@ not-held x b g h = ⊎-elim
     (true-or-false (holds x b))
 
 pair-is : (s : ℕ) (x y : Slot) → pairFaults s x y ≡ 0 → Apart x y × Apart y x
-unfolding Apart pairFaults rankOf blockOr
+unfolding Apart pairFaults stateNumber blockOr
 pair-is s x y z = (
   λ b e. not-held y b
       (λ c f q. conflict-not b 2 c 1 (omega arith) (rw (e, f) at z) (sym q))

@@ -5,12 +5,7 @@ use mathlib.Core.Bool.{cond}
 use lib.Dec.{ltb, eqb}
 use Rattle.coherence.specs.declared.Slot.{Slot}
 use Rattle.coherence.specs.declared.Slot.the-variants.{Invalid, Shared, Modified}
-
--- 0 invalid, 1 shared, 2 modified
-unfoldable pub rankOf : Slot → ℕ
-rankOf Invalid = 0
-rankOf (Shared b) = 1
-rankOf (Modified b) = 2
+use Rattle.coherence.specs.Slots.{stateNumber}
 
 -- the block of a valid slot, else s
 unfoldable pub blockOr : Slot → ℕ → ℕ
@@ -22,7 +17,7 @@ blockOr (Modified b) s = b
 unfoldable pub misplacedIn : ℕ → ℕ → ℕ
 misplacedIn b s = cond (ltb b 64) (cond (eqb (b % 16) s) 0 1) 1
 
--- 1 where two slots of the ranks t and v have one block, and one is modified and the other valid, else 0
+-- 1 where two slots with the state numbers t and v have one block, and one is modified and the other valid, else 0
 unfoldable pub conflictOf : ℕ → ℕ → ℕ → ℕ → ℕ
 conflictOf b t c v = cond (eqb b c) (cond (ltb (t + v) 3) 0 1) 0
 
@@ -31,7 +26,7 @@ unfoldable pub placeFaults : ℕ → Slot → ℕ
 placeFaults s x = misplacedIn (blockOr x s) s
 
 unfoldable pub pairFaults : ℕ → Slot → Slot → ℕ
-pairFaults s x y = conflictOf (blockOr x s) (rankOf x) (blockOr y s) (rankOf y)
+pairFaults s x y = conflictOf (blockOr x s) (stateNumber x) (blockOr y s) (stateNumber y)
 
 -- how many rules the slots s of the four units break
 unfoldable pub faultsOf : ℕ → Slot → Slot → Slot → Slot → ℕ

@@ -1,14 +1,14 @@
 // The test of the directory's rules.
 ghost use mathlib.Core.Path.{_≡_};
 ghost use Prim.Native.Nat.{_≤_};
-ghost use Rattle.coherence.specs.Slots.{sound};
-ghost use Rattle.refusal.specs.Soundness.{rankOf, blockOr, misplacedIn, conflictOf, faultsOf};
+ghost use Rattle.coherence.specs.Slots.{stateNumber, sound};
+ghost use Rattle.refusal.specs.Soundness.{blockOr, misplacedIn, conflictOf, faultsOf};
 use coherence::Directory;
 use coherence::Slot;
 
 // 0 invalid, 1 shared, 2 modified.
 fn rank(slot: Slot) -> u16
-    ensures { λ r. ⌜ (r ≡ rankOf slot) × (r ≤ 2) ⌝ }
+    ensures { λ r. ⌜ (r ≡ stateNumber slot) × (r ≤ 2) ⌝ }
 {
     match slot {
         Slot::Invalid => 0,

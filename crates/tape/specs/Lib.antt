@@ -1,7 +1,2 @@
--- The tape: records as bytes.
-pub mod Field
-pub mod Record
-pub mod Refused
-pub mod Write
-pub mod RoundTrip
-pub mod Examples
+-- How the code holds the numbers of a record.
+pub mod Numbers

@@ -3,29 +3,9 @@ use number::NumberRead;
 use number::read_number;
 use order::Command;
 use order::FIELD_RANGE;
+use tape_format::Rule;
 ghost use mathlib.Core.Path.{_≡_};
-ghost use mathlib.Core.Bool.{_&&_};
-ghost use Rattle.tape.specs.Field.{retriedMost, allowed, fieldAt};
-
-// The rule of a field. A `Retried` goes by the order's command, and a `To` by the record's `from`.
-pub enum Rule {
-    Unit,
-    Address,
-    Word,
-    Block,
-    Retried(Command),
-    From,
-    To(u64),
-    Byte,
-    Flag,
-    Bct,
-}
-
-pub(crate) fn both(a: bool, b: bool) -> bool
-    ensures { λ r. ⌜ r ≡ a && b ⌝ }
-{
-    if a { b } else { false }
-}
+ghost use Rattle.tape_format.specs.Field.{retriedMost, allowed, fieldAt};
 
 // Only a read and a modified read can be retried.
 fn retried_most(command: Command) -> u64
@@ -44,12 +24,12 @@ pub(crate) fn allows(rule: Rule, n: u64) -> bool
 {
     match rule {
         Rule::Unit => n <= 3,
-        Rule::Address => both(n <= 2044, n % 4 == 0),
+        Rule::Address => (n <= 2044) & (n % 4 == 0),
         Rule::Word => n <= 4294967295,
         Rule::Block => n <= 63,
         Rule::Retried(command) => n <= retried_most(command),
         Rule::From => n <= 7,
-        Rule::To(from) => both(n <= 7, n != from),
+        Rule::To(from) => (n <= 7) & (n != from),
         Rule::Byte => n <= 255,
         Rule::Flag => n <= 1,
         Rule::Bct => n <= 7,

@@ -1,10 +1,7 @@
-// The tape: records as bytes, both ways.
+// Records read from a tape and written to one. The format is `tape_format`'s.
 mod field;
 mod record;
 mod write;
 
-pub use record::Record;
-pub use record::RecordRead;
 pub use record::read_record;
-pub use write::Written;
 pub use write::write_record;

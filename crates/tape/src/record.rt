@@ -1,5 +1,4 @@
-// Records on the tape: the seven kinds, and reading them (document 01, "The tape").
-use crate::field::Rule;
+// Reading a record, one function for each of the seven kinds (document 01, "The tape").
 use crate::field::field;
 use number::NumberRead;
 use number::read_number;
@@ -9,38 +8,12 @@ use order::FIELD_RANGE;
 use order::Order;
 use order::UNKNOWN_KIND;
 use order::command_of;
+use tape_format::Record;
+use tape_format::RecordRead;
+use tape_format::Rule;
 ghost use mathlib.Core.Path.{_≡_};
 ghost use Prim.Native.Nat.{ℕ};
-ghost use Rattle.tape.specs.Record.{fieldsAt, load, store, flush, answer, register, loaded, kindAt, recordAt};
-
-pub enum Record {
-    Load(u8, u32),
-    Store(u8, u32, u32),
-    Flush(u8, u8),
-    Order(Order),
-    Answer {
-        from: u8,
-        to: u8,
-        aid: u8,
-        code: u8,
-    },
-    Register {
-        from: u8,
-        to: u8,
-        aid: u8,
-        write: bool,
-        ra: u32,
-        bct: u8,
-    },
-    Loaded(u8, u32),
-}
-
-// A record with the place after it, the tape's end, or the number of the refusal with its place.
-pub enum RecordRead {
-    Record(Record, usize),
-    Finished,
-    Refused(u8, usize),
-}
+ghost use Rattle.tape_format.specs.Record.{fieldsAt, load, store, flush, answer, register, loaded, kindAt, recordAt};
 
 // A number's refusal as the record's. It is called with refusals alone: of any other answer nothing is promised.
 fn refused(read: NumberRead) -> RecordRead
@@ -103,7 +76,7 @@ fn read_flush(tape: &[u8], at: usize) -> RecordRead
 
 // Kind 3: unit, command, block, retried.
 fn read_order(tape: &[u8], at: usize) -> RecordRead
-    ensures { λ r. ⌜ r ≡ fieldsAt Rattle.tape.specs.Record.order (now (tape .entry)) at ⌝ }
+    ensures { λ r. ⌜ r ≡ fieldsAt Rattle.tape_format.specs.Record.order (now (tape .entry)) at ⌝ }
 {
     let unit = field(tape, at, Rule::Unit);
     let NumberRead::Number(u, second) = unit else {

@@ -1,33 +1,24 @@
 // Writing records (document 01, "The tape").
-use crate::field::Rule;
 use crate::field::allows;
-use crate::field::both;
-use crate::record::Record;
 use number::write_numbers;
 use order::FIELD_RANGE;
 use order::NO_ROOM;
-use order::Order;
 use order::command_number;
 use order::flag_number;
+use tape_format::Record;
+use tape_format::Rule;
+use tape_format::Written;
 ghost use mathlib.Core.Path.{_≡_};
 ghost use mathlib.Core.List.{_∷_};
 ghost use lib.ListN.{length};
-ghost use mathlib.Core.Bool.{_&&_};
-ghost use Rattle.tape.specs.Field.{allowed};
-ghost use Rattle.order.specs.Flag.{flag};
-ghost use Rattle.tape.specs.Record.{kindOf, fieldsOf};
-ghost use Rattle.tape.specs.Write.{Spells, writtenOf, spaceAfter};
+ghost use Rattle.tape_format.specs.Record.{kindOf, fieldsOf};
+ghost use Rattle.tape.specs.Numbers.{Spells};
+ghost use Rattle.tape_format.specs.Write.{writtenOf, spaceAfter};
 
 // The numbers that a record is spelled as: the first `count` of `values`.
 pub struct Numbers {
     pub count: usize,
     pub values: [u64; 7],
-}
-
-// How many bytes were written, or the number of the refusal.
-pub enum Written {
-    Bytes(usize),
-    Refused(u8),
 }
 
 // The numbers of a record: its kind and its fields.
@@ -102,53 +93,27 @@ fn numbers_of(item: Record) -> Numbers
     }
 }
 
-fn order_valid(order: Order) -> bool
-    ensures { λ r. ⌜ r ≡ Rattle.tape.specs.Write.valid (Record.Order order) ⌝ }
-{
-    let command = order.command;
-    let retried = flag_number(order.retried);
-    both(
-        allows(Rule::Unit, order.unit as u64),
-        both(
-            allows(Rule::Block, order.block as u64),
-            allows(Rule::Retried(command), retried),
-        ),
-    )
-}
-
-// `from` and `to` of kinds 4 and 5.
-fn ends_valid(from: u8, to: u8) -> bool
-    ensures { λ r. ⌜ r ≡ (allowed Rule.From from && allowed (Rule.To from) to) ⌝ }
-{
-    both(
-        allows(Rule::From, from as u64),
-        allows(Rule::To(from as u64), to as u64),
-    )
-}
-
 // Every field is in its range. Those that a byte or 32 bits hold whole need no test.
 fn valid(item: Record) -> bool
-    ensures { λ r. ⌜ r ≡ Rattle.tape.specs.Write.valid item ⌝ }
+    ensures { λ r. ⌜ r ≡ Rattle.tape_format.specs.Write.valid item ⌝ }
 {
     match item {
-        Record::Load(u, a) => both(
-            allows(Rule::Unit, u as u64),
-            allows(Rule::Address, a as u64),
-        ),
-        Record::Store(u, a, _) => {
-            both(
-                allows(Rule::Unit, u as u64),
-                allows(Rule::Address, a as u64),
-            )
+        Record::Load(u, a) => allows(Rule::Unit, u as u64) & allows(Rule::Address, a as u64),
+        Record::Store(u, a, _) => allows(Rule::Unit, u as u64) & allows(Rule::Address, a as u64),
+        Record::Flush(u, b) => allows(Rule::Unit, u as u64) & allows(Rule::Block, b as u64),
+        Record::Order(order) => {
+            let command = order.command;
+            let retried = flag_number(order.retried);
+            allows(Rule::Unit, order.unit as u64)
+                & (allows(Rule::Block, order.block as u64)
+                    & allows(Rule::Retried(command), retried))
         }
-        Record::Flush(u, b) => both(allows(Rule::Unit, u as u64), allows(Rule::Block, b as u64)),
-        Record::Order(order) => order_valid(order),
         Record::Answer {
             from,
             to,
             aid: _,
             code: _,
-        } => ends_valid(from, to),
+        } => allows(Rule::From, from as u64) & allows(Rule::To(from as u64), to as u64),
         Record::Register {
             from,
             to,
@@ -156,7 +121,10 @@ fn valid(item: Record) -> bool
             write: _,
             ra: _,
             bct,
-        } => both(ends_valid(from, to), allows(Rule::Bct, bct as u64)),
+        } => {
+            (allows(Rule::From, from as u64) & allows(Rule::To(from as u64), to as u64))
+                & allows(Rule::Bct, bct as u64)
+        }
         Record::Loaded(u, _) => allows(Rule::Unit, u as u64),
     }
 }

@@ -1,8 +1,8 @@
 // A reader: the tape together with a place on it (document 01, "The tape"). Each function takes the reader apart and leaves the work to one on the slice and the place.
-use tape::RecordRead;
 use tape::read_record;
+use tape_format::RecordRead;
 ghost use mathlib.Core.Path.{_≡_};
-ghost use Rattle.tape.specs.Record.{recordAt};
+ghost use Rattle.tape_format.specs.Record.{recordAt};
 ghost use Rattle.tape_reader.specs.Reader.{placeAfter};
 
 pub struct Reader<'a> {

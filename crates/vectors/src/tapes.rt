@@ -3,9 +3,9 @@ use crate::print::byte;
 use crate::print::line;
 use crate::print::number;
 use crate::print::word;
-use tape::Record;
-use tape::RecordRead;
-use tape::Written;
+use tape_format::Record;
+use tape_format::RecordRead;
+use tape_format::Written;
 
 // A row for each reading: how many bytes the tape has, the place, and twelve bytes of which the first so many are the tape.
 const READINGS: [[u8; 14]; 34] = [

@@ -1,5 +1,5 @@
 -- Document 01, "Values to try": those marked P, together as one statement about the definitions that the contracts cite.
-use Prim.Native.Nat.{ℕ, _+_, _*_, _%_, _^_}
+use Prim.Native.Nat.{ℕ, _+_, _%_, _^_}
 use mathlib.Core.Path.{_≡_}
 use mathlib.Core.Bool.{Bool, true, false}
 use mathlib.Core.List.{List, [], _∷_, map}
@@ -14,15 +14,12 @@ use Rattle.bus.specs.declared.answer.Class.the-variants.{ReservedNoError, UserN
 use Rattle.bus.specs.declared.answer.CodeFound.{CodeFound}
 use Rattle.bus.specs.declared.answer.CodeFound.the-variants.{Code}
 use Rattle.bus.specs.Answer.{classOf, codeOf, isError}
-use Rattle.tape.specs.declared.record.Record.the-variants as tape
-use Rattle.tape.specs.declared.record.RecordRead.the-variants as read
-use Rattle.tape.specs.declared.write.Written.the-variants as wrote
-use Rattle.tape.specs.Record.{recordAt}
-use Rattle.tape.specs.Write.{writtenOf, spaceAfter}
-use Rattle.coherence.specs.declared.Call.{Call}
-use Rattle.coherence.specs.declared.Call.the-variants.{Load, Store}
-use Rattle.coherence.specs.Calls.{answersCold}
-use Rattle.coherence.specs.Demand3.{ordersGiven, loads, stores}
+use Rattle.tape_format.specs.declared.Record.the-variants as tape
+use Rattle.tape_format.specs.declared.RecordRead.the-variants as read
+use Rattle.tape_format.specs.declared.Written.the-variants as wrote
+use Rattle.tape_format.specs.Record.{recordAt}
+use Rattle.tape_format.specs.Write.{writtenOf, spaceAfter}
+use Rattle.coherence.specs.Examples.{P11}
 use Rattle.handler.specs.declared.Class.the-variants.{Low}
 use Rattle.handler.specs.declared.State.{State}
 use Rattle.handler.specs.Handler.{unitGranted, arbitration, initial}
@@ -37,13 +34,6 @@ classes = ReservedNoError 63 ∷ UserNoError 0 ∷ UserNoError 63 ∷ HardwareEr
 -- P9: the bytes of the store
 unfoldable pub stored : List ℕ
 stored = 0x01 ∷ 0x02 ∷ 0x48 ∷ 0xAC ∷ 0x02 ∷ []
-
--- P11: the first two drill calls, after a cold start on zero memory
-unfoldable pub firstTwo : List Call
-firstTwo = Store 0 72 9 ∷ Load 1 72 ∷ []
-
-unfoldable pub ordersOfFirstTwo : ℕ
-ordersOfFirstTwo = ordersGiven (answersCold (replicate 2048 0) firstTwo)
 
 -- P12: the set {0, 7}, and the state that the first call leaves
 unfoldable pub zeroAndSeven : ℕ
@@ -82,11 +72,7 @@ pub record Worked : Type 0 where
   -- `80 00` as kind: refusal 6
   pub p10 : recordAt (0x80 ∷ 0x00 ∷ []) 0 ≡ read.Refused badNumber 0
   -- the first two drill calls: four orders, exactly one load plus three times one store
-  pub p11 :
-      (ordersOfFirstTwo ≡ 4)
-      × (loads firstTwo ≡ 1)
-      × (stores firstTwo ≡ 1)
-      × (ordersOfFirstTwo ≡ loads firstTwo + 3 * stores firstTwo)
+  pub p11 : P11
   -- fresh handler, LCK negated, RQH empty, RQL = {0, 7} twice: 0, then 7; with LCK asserted at the second call: 0 again
   pub p12 :
       (unitGranted Low (arbitration initial 0 zeroAndSeven false .grant) ≡ some 0)

@@ -1,6 +1,6 @@
 -- `capi_jbus::device_number` meets its contract.
 use borrow.Author.Needs.{needs}
-use Rattle.capi_jbus.specs.Interrupt.{deviceNumber}
+use Rattle.jbus.specs.Device.{deviceNumber}
 use Rattle.capi_jbus.proofs.device_number.Statement.{statement}
 use Rattle.capi_jbus.proofs.device_number.Tie as tie
 

@@ -3,7 +3,8 @@ use borrow.Author.Needs.{needs}
 use mathlib.Core.Path.{_≡_, ap, _∙_}
 use borrow.Author.Tests.{le-leb, lt-leb}
 use Rattle.coherence.specs.Calls.{startAnswer}
-use Rattle.capi_machine.specs.Start.{startReturned, startCache, startDirectory}
+use Rattle.layout.specs.Directory.{directoryPut}
+use Rattle.capi_machine.specs.Start.{startReturned, startCache}
 use Rattle.capi_machine.proofs.trainer_cold_start.Statement.{statement}
 use Rattle.capi_machine.proofs.trainer_cold_start.Tie as tie
 
@@ -11,7 +12,7 @@ cast-result : tie.Need-cast-result
 cast-result c = search needs
 
 returns : tie.Need-returns
-unfolding startReturned startCache startDirectory
+unfolding startReturned startCache directoryPut
 returns c = let e = lt-leb 128 _ (c .if1 .taken) in (rw e, rw e, rw e)
 
 cold-start-requires : tie.Need-cold-start-requires
@@ -30,11 +31,11 @@ same-length-2 : tie.Need-same-length-2
 same-length-2 c = search needs
 
 returns-2 : tie.Need-returns-2
-unfolding startReturned startCache startDirectory startAnswer
+unfolding startReturned startCache startAnswer
 returns-2 c =
     let e = le-leb 128 _ (c .before .before .before .before .before .before .before .before .before .before .if1 .left) in
     let s = c .before .before .before .before .before .before .before .before .cold-start .ensures in
-    (rw (e, s .0), rw e (s .1), rw e (rw (s .0) at (c .before .before .before .encode .ensures)))
+    (rw (e, s .0), rw e (s .1), rw (s .0) at (c .before .before .before .encode .ensures))
 
 pub trainer-cold-start-spec : {M : Type 1} → statement M
 trainer-cold-start-spec =

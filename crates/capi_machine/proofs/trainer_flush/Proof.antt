@@ -4,7 +4,7 @@ use Rattle.coherence.specs.declared.Call.the-variants.{Flush}
 use Rattle.coherence.specs.Demand3.{Answered}
 use Rattle.layout.specs.Directory.{decoded}
 use Rattle.capi_machine.specs.Call.{narrowed}
-use Rattle.capi_machine.proofs.CallLaws.{no-room, can-hand-over, handed-over}
+use Rattle.capi_machine.proofs.CallLaws.{no-room, handed-over}
 use Rattle.capi_machine.proofs.trainer_flush.Statement.{statement}
 use Rattle.capi_machine.proofs.trainer_flush.Tie as tie
 
@@ -41,10 +41,7 @@ answered c =
     record { answers = rw (d, n, b) at (s .0); memory = rw (d, n, b) at (s .1); cache = rw (d, n, b) at (s .2) }
 
 hand-over-requires : tie.Need-hand-over-requires
-hand-over-requires c κs =
-    let a = c .before .before .before .before .before .before .before .before .before .before .before .before .before .before .before .args in
-    can-hand-over (a .directory .now) (a .memory .now) (a .cache .now) (a .answer .now) _ _ _ _ (answered (c .before .before .before .before))
-    (c .before .before .before .before .before .before .before .before .before .before .if1 .left)
+hand-over-requires c κs = search needs
 
 same-length : tie.Need-same-length
 same-length c = search needs

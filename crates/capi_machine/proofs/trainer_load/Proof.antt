@@ -4,7 +4,7 @@ use Rattle.coherence.specs.declared.Call.the-variants.{Load}
 use Rattle.coherence.specs.Demand3.{Answered}
 use Rattle.layout.specs.Directory.{decoded}
 use Rattle.capi_machine.specs.Call.{narrowed}
-use Rattle.capi_machine.proofs.CallLaws.{no-room, can-hand-over, handed-over}
+use Rattle.capi_machine.proofs.CallLaws.{no-room, handed-over}
 use Rattle.capi_machine.proofs.trainer_load.Statement.{statement}
 use Rattle.capi_machine.proofs.trainer_load.Tie as tie
 
@@ -37,10 +37,7 @@ answered c =
     record { answers = rw (d, n) at (s .0); memory = rw (d, n) at (s .1); cache = rw (d, n) at (s .2) }
 
 hand-over-requires : tie.Need-hand-over-requires
-hand-over-requires c κs =
-    let a = c .before .before .before .before .before .before .before .before .before .before .before .before .before .before .before .before .before .args in
-    can-hand-over (a .directory .now) (a .memory .now) (a .cache .now) (a .answer .now) _ _ _ _ (answered (c .before .before .before .before .before .before))
-    (c .before .before .before .before .before .before .before .before .before .before .before .before .if1 .left)
+hand-over-requires c κs = search needs
 
 same-length : tie.Need-same-length
 same-length c = search needs

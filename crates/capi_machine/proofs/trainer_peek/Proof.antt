@@ -1,15 +1,15 @@
 -- `capi_machine::trainer_peek` meets its contract.
 use borrow.Author.Needs.{needs}
-use borrow.Author.Tests.{eq-eqb, ne-eqb}
-use mathlib.Core.Path.{_≡_, sym, ap, _∙_}
-use mathlib.Core.Bool.{true, false}
+use borrow.Author.Tests.{ne-eqb}
+use mathlib.Core.Path.{_≡_}
+use mathlib.Core.Bool.{false}
 use lib.Dec.{eqb}
 use Rattle.coherence.specs.Refusal.{peekRefusal}
-use Rattle.coherence.specs.Peek.{peekFromCache, peekOffset}
-use Rattle.capi_machine.specs.declared.place.Place.{Place}
+use Rattle.coherence.specs.Slots.{ownerOf}
 use Rattle.layout.specs.Directory.{decoded}
 use Rattle.capi_machine.specs.Call.{narrowed}
-use Rattle.capi_machine.specs.Place.{newestPlace, peekReturned, storeLeft, offsetLeft}
+use Rattle.capi_machine.specs.Place.{peekReturned, storeLeft, offsetLeft}
+use Rattle.capi_machine.proofs.PlaceLaws.{from-cache, from-memory}
 use Rattle.capi_machine.proofs.trainer_peek.Statement.{statement}
 use Rattle.capi_machine.proofs.trainer_peek.Tie as tie
 
@@ -35,20 +35,47 @@ returns c =
     rw r at (ne-eqb _ 0 (c .if1 .taken)) in
     (r, rw q, rw q)
 
-place-of-requires : tie.Need-place-of-requires
-place-of-requires c κs = search needs
+owner-requires : tie.Need-owner-requires
+owner-requires c κs = search needs
+
+cast-offset : tie.Need-cast-offset
+cast-offset c = search needs
+
+mul-offset : tie.Need-mul-offset
+mul-offset c = search needs
+
+cast-offset-2 : tie.Need-cast-offset-2
+cast-offset-2 c = search needs
+
+mul-offset-2 : tie.Need-mul-offset-2
+mul-offset-2 c = search needs
+
+add-offset : tie.Need-add-offset
+add-offset c = search needs
 
 returns-2 : tie.Need-returns-2
-unfolding peekReturned storeLeft offsetLeft peekFromCache peekOffset newestPlace
 returns-2 c =
-    let a = c .before .before .before .before .before .before .before .before .args in
-    let r : c .before .before .peek-refusal .result ≡ peekRefusal (decoded (a .directory .now)) (a .memory .now) (a .cache .now) (narrowed (a .block)) =
-    rw (c .before .before .before .before .decode .ensures, c .before .before .before .byte .ensures) at (c .before .before .peek-refusal .ensures) in
-    let q : eqb (peekRefusal (decoded (a .directory .now)) (a .memory .now) (a .cache .now) (narrowed (a .block))) 0 ≡ true =
-    rw r at (eq-eqb _ 0 (c .before .if1 .left)) in
-    let p : c .place-of .result ≡ newestPlace (decoded (a .directory .now)) (narrowed (a .block)) =
-    rw (c .before .before .before .before .decode .ensures, c .before .before .before .byte .ensures) at (c .place-of .ensures) in
-    (sym (c .before .if1 .left) ∙ r, rw q (ap (λ (x : Place). x .store) p), rw q (ap (λ (x : Place). x .offset) p))
+    let a = c .before .before .before .before .before .before .before .before .before .args in
+    let r : c .before .before .before .peek-refusal .result ≡ peekRefusal (decoded (a .directory .now)) (a .memory .now) (a .cache .now) (narrowed (a .block)) =
+    rw (c .before .before .before .before .before .decode .ensures, c .before .before .before .before .byte .ensures) at (c .before .before .before .peek-refusal .ensures) in
+    let o : c .before .owner .result ≡ ownerOf (decoded (a .directory .now)) (narrowed (a .block)) =
+    rw (c .before .before .before .before .before .decode .ensures, c .before .before .before .before .byte .ensures) at (c .before .owner .ensures) in
+    rw (c .before .before .before .before .byte .ensures) (from-cache (a .directory .now) (a .memory .now) (a .cache .now) (a .block) _ _ _ _ r (c .before .before .if1 .left) o (c .if2 .taken))
+
+cast-offset-3 : tie.Need-cast-offset-3
+cast-offset-3 c = search needs
+
+mul-offset-3 : tie.Need-mul-offset-3
+mul-offset-3 c = search needs
+
+returns-3 : tie.Need-returns-3
+returns-3 c =
+    let a = c .before .before .before .before .before .before .before .before .before .args in
+    let r : c .before .before .before .peek-refusal .result ≡ peekRefusal (decoded (a .directory .now)) (a .memory .now) (a .cache .now) (narrowed (a .block)) =
+    rw (c .before .before .before .before .before .decode .ensures, c .before .before .before .before .byte .ensures) at (c .before .before .before .peek-refusal .ensures) in
+    let o : c .before .owner .result ≡ ownerOf (decoded (a .directory .now)) (narrowed (a .block)) =
+    rw (c .before .before .before .before .before .decode .ensures, c .before .before .before .before .byte .ensures) at (c .before .owner .ensures) in
+    rw (c .before .before .before .before .byte .ensures) (from-memory (a .directory .now) (a .memory .now) (a .cache .now) (a .block) _ _ _ _ r (c .before .before .if1 .left) o (c .if2 .left))
 
 pub trainer-peek-spec : {M : Type 1} → statement M
 trainer-peek-spec =
@@ -59,5 +86,13 @@ trainer-peek-spec =
     peek-refusal-requires
     cast-result
     returns
-    place-of-requires
-    returns-2)
+    owner-requires
+    cast-offset
+    mul-offset
+    cast-offset-2
+    mul-offset-2
+    add-offset
+    cast-offset-3
+    mul-offset-3
+    returns-2
+    returns-3)

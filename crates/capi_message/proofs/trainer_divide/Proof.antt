@@ -1,7 +1,7 @@
 -- `capi_message::trainer_divide` meets its contract.
 use borrow.Author.Needs.{needs}
 use mathlib.Core.Path.{sym, ap, _∙_}
-use Rattle.message.specs.declared.sender.Division.{Division}
+use Rattle.message_rules.specs.declared.Division.{Division}
 use Rattle.capi_message.specs.Divide.{divideOperations}
 use Rattle.capi_message.proofs.DivideLaws.{divide-returned, divide-refused, divide-accepted}
 use Rattle.capi_message.proofs.trainer_divide.Statement.{statement}

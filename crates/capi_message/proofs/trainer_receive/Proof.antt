@@ -1,7 +1,7 @@
 -- `capi_message::trainer_receive` meets its contract.
 use borrow.Author.Needs.{needs}
 use mathlib.Core.Path.{_≡_}
-use Rattle.message.specs.Receiver.{receipt, storeAfter}
+use Rattle.message_rules.specs.Receiver.{receipt, storeAfter}
 use Rattle.capi_message.specs.Layout.{receiverFrom}
 use Rattle.capi_message.specs.Operation.{operationFrom}
 use Rattle.capi_message.proofs.ReceiveLaws.{no-receiver, no-completion, room, no-room, handed-over}

@@ -1,7 +1,7 @@
 -- `capi_tape::trainer_write_record` meets its contract.
 use borrow.Author.Needs.{needs}
 use mathlib.Core.Path.{sym, _∙_}
-use Rattle.tape.specs.Write.{writtenRefusal}
+use Rattle.tape_format.specs.Write.{writtenRefusal}
 use Rattle.capi_tape.specs.Entry.{countOr}
 use Rattle.capi_tape.proofs.EntryLaws.{write-known, write-refused}
 use Rattle.capi_tape.proofs.trainer_write_record.Statement.{statement}

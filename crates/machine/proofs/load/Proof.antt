@@ -3,7 +3,7 @@ use native.Mathlib.Omega.{arith}
 use mathlib.Core.Path.{refl, sym, _∙_}
 use Rattle.coherence.specs.Calls.{unitOf, isTarget, refusal, act, loaded}
 use Rattle.coherence.specs.declared.Call.the-variants.{Load}
-use Rattle.bytes.proofs.StoreLaws.{length-fetched}
+use Rattle.blocks.proofs.StoreLaws.{length-fetched}
 use Rattle.machine.proofs.Refusals.{known, address-of}
 use Rattle.machine.proofs.Accesses.{load-held, load-missed, loaded-in}
 use Rattle.machine.proofs.Calls.{comes-to, refuses}

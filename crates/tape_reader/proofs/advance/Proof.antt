@@ -42,7 +42,7 @@ use denote.Triple.Table.{entered, cited}
 use denote.Triple.Walked.{says, Stays, stay-none, walkOf, goes-none, Walks, ends-at, walked, walk-meets}
 use denote.Exit.{yes}
 use denote.Triple.Clauses.{ensured, lasts}
-use Rattle.tape.specs.Record.{recordAt}
+use Rattle.tape_format.specs.Record.{recordAt}
 use Rattle.tape_reader.specs.Reader.{placeAfter}
 use Rattle.tape_reader.specs.declared.Reader.{Reader}
 use Rattle.tape_reader.proofs.Reader as T

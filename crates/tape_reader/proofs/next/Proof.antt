@@ -42,13 +42,13 @@ use denote.Triple.Table.{entered, cited}
 use denote.Triple.Walked.{says, Stays, stay-none, walkOf, goes-none, Walks, ends-at, walked, walk-meets}
 use denote.Exit.{yes}
 use denote.Triple.Clauses.{ensured, lasts}
-use Rattle.tape.specs.Record.{recordAt}
+use Rattle.tape_format.specs.Record.{recordAt}
 use Rattle.tape_reader.specs.declared.Reader.{Reader}
-use Rattle.tape.specs.declared.record.RecordRead.{RecordRead}
+use Rattle.tape_format.specs.declared.RecordRead.{RecordRead}
 use Rattle.tape_reader.proofs.Reader as T
 use Rattle.tape_reader.proofs.Reader.Laws as T′
-use Rattle.tape.proofs.record.RecordRead as S
-use Rattle.tape.proofs.record.RecordRead.Laws as S′
+use Rattle.tape_format.proofs.RecordRead as S
+use Rattle.tape_format.proofs.RecordRead.Laws as S′
 use Rattle.tape.proofs.read_record as step
 use Rattle.tape.proofs.read_record.Symbol as step-def
 use Rattle.tape.proofs.read_record.Symbol.{name as #tape·read-record}

@@ -6,7 +6,7 @@ use Rattle.capi_machine.proofs.call.hand_over.Statement.{statement}
 use Rattle.capi_machine.proofs.call.hand_over.Tie as tie
 
 encode-requires : tie.Need-encode-requires
-encode-requires c κs = c .before .before .before .before .before .before .pre .2 (c .before .before .if1 .taken)
+encode-requires c κs = search needs
 
 put-answer-requires : tie.Need-put-answer-requires
 put-answer-requires c κs = search needs

@@ -1,7 +1,7 @@
 -- `capi_message::layout::put_completion` meets its contract.
 use borrow.Author.Needs.{needs}
 use Rattle.capi_message.specs.Layout.{completionNumbers}
-use Rattle.message.specs.Receiver.{completionTold}
+use Rattle.message_rules.specs.Receiver.{completionTold}
 use Rattle.capi_message.proofs.layout.put_completion.Statement.{statement}
 use Rattle.capi_message.proofs.layout.put_completion.Tie as tie
 

@@ -3,8 +3,8 @@ use borrow.Author.Needs.{needs}
 use Prim.Native.Nat.{_<_}
 use native.Mathlib.Omega.{arith}
 use borrow.Author.Tests.{lt-ltb, le-ltb}
-use Rattle.message.specs.Sender.{division, partOffset}
-use Rattle.message.proofs.SenderTests.{start-within}
+use Rattle.message_rules.specs.Sender.{division, partOffset}
+use Rattle.message_rules.proofs.SenderTests.{start-within}
 use Rattle.capi_message.proofs.operation.offset_at.Statement.{statement}
 use Rattle.capi_message.proofs.operation.offset_at.Tie as tie
 

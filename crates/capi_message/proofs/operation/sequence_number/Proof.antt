@@ -1,6 +1,6 @@
 -- `capi_message::operation::sequence_number` meets its contract.
 use borrow.Author.Needs.{needs}
-use Rattle.message.specs.Operation.{sequenceNumber}
+use Rattle.message_rules.specs.Operation.{sequenceNumber}
 use Rattle.capi_message.proofs.operation.sequence_number.Statement.{statement}
 use Rattle.capi_message.proofs.operation.sequence_number.Tie as tie
 

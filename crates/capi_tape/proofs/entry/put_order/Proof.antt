@@ -1,6 +1,6 @@
 -- `capi_tape::entry::put_order` meets its contract.
 use borrow.Author.Needs.{needs}
-use Rattle.tape.specs.Record.{kindOf, fieldsOf}
+use Rattle.tape_format.specs.Record.{kindOf, fieldsOf}
 use Rattle.capi_tape.specs.Entry.{padded, recordNumbers}
 use Rattle.capi_tape.proofs.entry.put_order.Statement.{statement}
 use Rattle.capi_tape.proofs.entry.put_order.Tie as tie

@@ -4,11 +4,12 @@ use native.Mathlib.Omega.{arith}
 use Prim.Native.Nat.{ℕ, _+_, _*_, _-_, _≤_}
 use mathlib.Core.Path.{_≡_, refl, sym, ap, _∙_}
 use mathlib.Core.List.{List, [], _∷_, _++_}
+use borrow.Author.Tests.{le-leb, lt-leb}
 use lib.ListN.{length, take, drop, length-set}
 use lib.Seq.{length-take-le, paste-zero}
 use Rattle.crossing.proofs.Spaces.{put-front}
 use Rattle.layout.proofs.AnswerLaws.{put-next}
-use Rattle.layout.specs.Answer.{ordersNumbers, answerNumbers}
+use Rattle.layout.specs.Answer.{ordersNumbers, answerNumbers, answerPut}
 use Rattle.layout.proofs.answer.put_answer.Statement.{statement}
 use Rattle.layout.proofs.answer.put_answer.Tie as tie
 
@@ -18,9 +19,17 @@ Inv-loop a out₀ orders list n₀ out n = (n ≤ 4) × (length out ≡ length o
 abbrev μ-loop : tie.MeasureT-loop
 μ-loop a out₀ orders list n₀ out n = 4 - n
 
+returns : tie.Need-returns Inv-loop μ-loop
+unfolding answerPut
+returns c = rw (lt-leb 18 _ (c .if1 .taken))
+
+returns-2 : tie.Need-returns-2 Inv-loop μ-loop
+unfolding answerPut
+returns-2 c = rw (le-leb 18 _ (c .before .before .if1 .left), lt-leb _ 4 (c .if2 .taken))
+
 loop-holds : tie.Need-loop-holds Inv-loop μ-loop
 unfolding ordersNumbers
-loop-holds c = (omega arith, refl, paste-zero (c .before .before .before .args .out .now) 2 [])
+loop-holds c = (omega arith, refl, paste-zero (c .before .before .before .before .before .before .args .out .now) 2 [])
 
 mul-put-order : tie.Need-mul-put-order Inv-loop μ-loop
 mul-put-order c = search needs
@@ -46,7 +55,7 @@ loop-less c = search needs
 loop-again : tie.Need-loop-again Inv-loop μ-loop
 loop-again c =
     let l = c .before .before .before .before .before .before .loop in
-    let a = c .before .before .before .before .before .before .before .before .before .before .args in
+    let a = c .before .before .before .before .before .before .before .before .before .before .before .before .before .args in
     let p = c .before .before .put-order in
     let two : length (take 2 (a .out .now)) ≡ 2 = length-take-le 2 (a .out .now) (omega arith) in (
       omega arith,
@@ -66,14 +75,15 @@ slice-write-out-2 c = simp length-set (omega arith)
 same-length : tie.Need-same-length Inv-loop μ-loop
 same-length c = search needs
 
-returns : tie.Need-returns Inv-loop μ-loop
-unfolding answerNumbers
-returns c =
+returns-3 : tie.Need-returns-3 Inv-loop μ-loop
+unfolding answerPut answerNumbers
+returns-3 c =
     let l = c .before .before .loop in
-    let a = c .before .before .before .before .before .before .args in
+    let a = c .before .before .before .before .before .before .before .before .before .args in
     let e : l .n ≡ 4 = omega arith in
     let two : length (take 2 (a .out .now)) ≡ 2 = length-take-le 2 (a .out .now) (omega arith) in
-    rw (l .inv .2, e) (put-front (take 2 (a .out .now)) (ordersNumbers 4 (a .a .orders .list)) (drop 18 (a .out .now)) (a .a .value ∷ a .a .orders .count ∷ []) two)
+    rw (le-leb 18 _ (c .before .before .before .before .before .before .if1 .left), le-leb _ 4 (c .before .before .before .before .if2 .left), l .inv .2, e)
+    (put-front (take 2 (a .out .now)) (ordersNumbers 4 (a .a .orders .list)) (drop 18 (a .out .now)) (a .a .value ∷ a .a .orders .count ∷ []) two)
 
 pub put-answer-spec : {M : Type 1} → statement M
 put-answer-spec =
@@ -81,6 +91,8 @@ put-answer-spec =
     (tie.spec
     Inv-loop
     μ-loop
+    returns
+    returns-2
     loop-holds
     mul-put-order
     array-copy-out-put-order
@@ -94,4 +106,4 @@ put-answer-spec =
     cast-out
     slice-write-out-2
     same-length
-    returns)
+    returns-3)

@@ -3,9 +3,10 @@ use Prim.Native.Nat.{ℕ, _≤_, _-_, _*_}
 use mathlib.Core.Path.{_≡_, refl, sym, ap, _∙_}
 use mathlib.Core.List.{_++_}
 use native.Mathlib.Omega.{arith}
+use borrow.Author.Tests.{le-leb, lt-leb}
 use lib.ListN.{length, drop, length-set}
 use Rattle.coherence.specs.Slots.{slotAt}
-use Rattle.layout.specs.Directory.{slotBytes, encoded}
+use Rattle.layout.specs.Directory.{slotBytes, encoded, directoryPut}
 use Rattle.layout.proofs.DirectoryLaws.{put-slot}
 use borrow.Author.Needs.{needs}
 use Rattle.layout.proofs.directory.encode.Statement.{statement}
@@ -16,6 +17,10 @@ Inv-loop out₀ slots n₀ out n = (n ≤ 64) × (length out ≡ length out₀) 
 
 abbrev μ-loop : tie.MeasureT-loop
 μ-loop out₀ slots n₀ out n = 64 - n
+
+returns : tie.Need-returns Inv-loop μ-loop
+unfolding directoryPut
+returns c = rw (lt-leb 128 _ (c .if1 .taken))
 
 loop-holds : tie.Need-loop-holds Inv-loop μ-loop
 unfolding slotBytes
@@ -57,7 +62,7 @@ loop-less c = search needs
 loop-again : tie.Need-loop-again Inv-loop μ-loop
 unfolding slotAt
 loop-again c =
-    let a = c .before .before .before .before .before .before .before .args in
+    let a = c .before .before .before .before .before .before .before .before .args in
     let l = c .before .before .before .before .loop in (
       omega arith,
       simp length-set (omega arith),
@@ -67,13 +72,14 @@ loop-again c =
 same-length : tie.Need-same-length Inv-loop μ-loop
 same-length c = search needs
 
-returns : tie.Need-returns Inv-loop μ-loop
-unfolding encoded
-returns c =
-    let a = c .before .before .before .before .args in
+returns-2 : tie.Need-returns-2 Inv-loop μ-loop
+unfolding directoryPut encoded
+returns-2 c =
+    let a = c .before .before .before .before .before .args in
     let l = c .before .loop in
     let e : l .n ≡ 64 = omega arith in
-    l .inv .2 ∙ ap (λ (n : ℕ). slotBytes n (a .d) ++ drop (2 * n) (a .out .now)) e
+    rw (le-leb 128 _ (c .before .before .before .if1 .left))
+    (l .inv .2 ∙ ap (λ (n : ℕ). slotBytes n (a .d) ++ drop (2 * n) (a .out .now)) e)
 
 pub encode-spec : {M : Type 1} → statement M
 encode-spec =
@@ -81,6 +87,7 @@ encode-spec =
     (tie.spec
     Inv-loop
     μ-loop
+    returns
     loop-holds
     mul-e
     array-copy-out-e
@@ -95,4 +102,4 @@ encode-spec =
     loop-less
     loop-again
     same-length
-    returns)
+    returns-2)

@@ -1,6 +1,6 @@
 -- `message::operation::is_end` meets its contract.
 use borrow.Author.Needs.{needs}
-use Rattle.message.specs.Operation.{ends}
+use Rattle.message_rules.specs.Operation.{ends}
 use Rattle.message.proofs.operation.is_end.Statement.{statement}
 use Rattle.message.proofs.operation.is_end.Tie as tie
 

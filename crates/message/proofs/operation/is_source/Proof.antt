@@ -1,6 +1,6 @@
 -- `message::operation::is_source` meets its contract.
 use mathlib.Core.Path.{refl}
-use Rattle.message.specs.Operation.{isSource}
+use Rattle.message_rules.specs.Operation.{isSource}
 use Rattle.message.proofs.operation.is_source.Statement.{statement}
 use Rattle.message.proofs.operation.is_source.Tie as tie
 

@@ -1,6 +1,6 @@
 -- `message::operation::is_start` meets its contract.
 use borrow.Author.Needs.{needs}
-use Rattle.message.specs.Operation.{starts}
+use Rattle.message_rules.specs.Operation.{starts}
 use Rattle.message.proofs.operation.is_start.Statement.{statement}
 use Rattle.message.proofs.operation.is_start.Tie as tie
 

@@ -1,6 +1,6 @@
 -- `message::receiver::is_allowed` meets its contract.
 use borrow.Author.Needs.{needs}
-use Rattle.message.specs.Receiver.{stateAllowed}
+use Rattle.message_rules.specs.Receiver.{stateAllowed}
 use Rattle.message.proofs.receiver.is_allowed.Statement.{statement}
 use Rattle.message.proofs.receiver.is_allowed.Tie as tie
 

@@ -1,6 +1,6 @@
 -- `message::receiver::is_expected` meets its contract.
 use borrow.Author.Needs.{needs}
-use Rattle.message.specs.Receiver.{isExpected}
+use Rattle.message_rules.specs.Receiver.{isExpected}
 use Rattle.message.proofs.receiver.is_expected.Statement.{statement}
 use Rattle.message.proofs.receiver.is_expected.Tie as tie
 

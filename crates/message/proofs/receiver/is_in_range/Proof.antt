@@ -1,6 +1,6 @@
 -- `message::receiver::is_in_range` meets its contract.
 use borrow.Author.Needs.{needs}
-use Rattle.message.specs.Receiver.{inRange}
+use Rattle.message_rules.specs.Receiver.{inRange}
 use Rattle.message.proofs.receiver.is_in_range.Statement.{statement}
 use Rattle.message.proofs.receiver.is_in_range.Tie as tie
 

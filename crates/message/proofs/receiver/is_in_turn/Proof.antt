@@ -1,6 +1,6 @@
 -- `message::receiver::is_in_turn` meets its contract.
 use borrow.Author.Needs.{needs}
-use Rattle.message.specs.Receiver.{inTurn}
+use Rattle.message_rules.specs.Receiver.{inTurn}
 use Rattle.message.proofs.receiver.is_in_turn.Statement.{statement}
 use Rattle.message.proofs.receiver.is_in_turn.Tie as tie
 

@@ -2,10 +2,10 @@
 use borrow.Author.Needs.{needs}
 use mathlib.Core.Path.{_≡_, sym, _∙_}
 use native.Mathlib.Omega.{arith}
-use Rattle.message.specs.Operation.{operation}
-use Rattle.message.specs.Receiver.{receiveRefusal, refused}
-use Rattle.message.proofs.ReceiverTests.{accepted-tests, accepted-placed}
-use Rattle.message.proofs.ReceiverLaws.{accepted-answer, accepted-store, refused-answer, refused-store}
+use Rattle.message_rules.specs.Operation.{operation}
+use Rattle.message_rules.specs.Receiver.{receiveRefusal, refused}
+use Rattle.message_rules.proofs.ReceiverTests.{accepted-tests, accepted-placed}
+use Rattle.message_rules.proofs.ReceiverLaws.{accepted-answer, accepted-store, refused-answer, refused-store}
 use Rattle.message.proofs.receiver.receive.Statement.{statement}
 use Rattle.message.proofs.receiver.receive.Tie as tie
 

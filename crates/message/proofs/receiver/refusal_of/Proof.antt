@@ -7,9 +7,9 @@ use native.Mathlib.Omega.{arith}
 use lib.Dec.{eqb, leb}
 use lib.ListN.{length}
 use borrow.Author.Tests.{eq-eqb, ne-eqb, le-leb, lt-leb, not-true, not-false}
-use Rattle.message.specs.Operation.{operation}
-use Rattle.message.specs.Receiver.{stateAllowed, inRange, inTurn, isExpected, startOf, receiveRefusal}
-use Rattle.message.proofs.ReceiverTests.{receive-tests, size-small, start-small}
+use Rattle.message_rules.specs.Operation.{operation}
+use Rattle.message_rules.specs.Receiver.{stateAllowed, inRange, inTurn, isExpected, startOf, receiveRefusal}
+use Rattle.message_rules.proofs.ReceiverTests.{receive-tests, size-small, start-small}
 use Rattle.message.proofs.receiver.refusal_of.Statement.{statement}
 use Rattle.message.proofs.receiver.refusal_of.Tie as tie
 

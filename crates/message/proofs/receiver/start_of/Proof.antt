@@ -1,6 +1,6 @@
 -- `message::receiver::start_of` meets its contract.
 use borrow.Author.Needs.{needs}
-use Rattle.message.specs.Receiver.{startOf}
+use Rattle.message_rules.specs.Receiver.{startOf}
 use Rattle.message.proofs.receiver.start_of.Statement.{statement}
 use Rattle.message.proofs.receiver.start_of.Tie as tie
 

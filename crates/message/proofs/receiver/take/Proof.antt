@@ -1,6 +1,6 @@
 -- `message::receiver::take` meets its contract.
 use borrow.Author.Needs.{needs}
-use Rattle.message.specs.Receiver.{taken}
+use Rattle.message_rules.specs.Receiver.{taken}
 use Rattle.message.proofs.receiver.take.Statement.{statement}
 use Rattle.message.proofs.receiver.take.Tie as tie
 

@@ -1,7 +1,7 @@
 -- `message::sender::divide` meets its contract.
 use borrow.Author.Needs.{needs}
 use borrow.Author.Tests.{eq-eqb, ne-eqb}
-use Rattle.message.specs.Sender.{operationCount, division}
+use Rattle.message_rules.specs.Sender.{operationCount, division}
 use Rattle.message.proofs.sender.divide.Statement.{statement}
 use Rattle.message.proofs.sender.divide.Tie as tie
 

@@ -1,9 +1,9 @@
 -- `message::sender::part_at` meets its contract.
 use borrow.Author.Needs.{needs}
 use borrow.Author.Tests.{lt-ltb, le-ltb}
-use Rattle.message.specs.Operation.{operation}
-use Rattle.message.specs.Sender.{partFound, partOffset}
-use Rattle.message.proofs.SenderTests.{operation-found, operation-none, start-within}
+use Rattle.message_rules.specs.Operation.{operation}
+use Rattle.message_rules.specs.Sender.{partFound, partOffset}
+use Rattle.message_rules.proofs.SenderTests.{operation-found, operation-none, start-within}
 use Rattle.message.proofs.sender.part_at.Statement.{statement}
 use Rattle.message.proofs.sender.part_at.Tie as tie
 

@@ -1,6 +1,6 @@
 -- `message::sender::part_of` meets its contract.
 use borrow.Author.Needs.{needs}
-use Rattle.message.proofs.SenderTests.{part-to-end, part-of-256}
+use Rattle.message_rules.proofs.SenderTests.{part-to-end, part-of-256}
 use Rattle.message.proofs.sender.part_of.Statement.{statement}
 use Rattle.message.proofs.sender.part_of.Tie as tie
 

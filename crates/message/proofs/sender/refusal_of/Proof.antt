@@ -7,8 +7,8 @@ use native.Mathlib.Omega.{arith}
 use lib.Dec.{leb}
 use lib.ListN.{length}
 use borrow.Author.Tests.{le-leb, lt-leb, not-true, not-false}
-use Rattle.message.specs.Operation.{isSource}
-use Rattle.message.proofs.SenderTests.{send-tests}
+use Rattle.message_rules.specs.Operation.{isSource}
+use Rattle.message_rules.proofs.SenderTests.{send-tests}
 use Rattle.message.proofs.sender.refusal_of.Statement.{statement}
 use Rattle.message.proofs.sender.refusal_of.Tie as tie
 

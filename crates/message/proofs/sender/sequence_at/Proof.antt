@@ -1,8 +1,8 @@
 -- `message::sender::sequence_at` meets its contract.
 use borrow.Author.Needs.{needs}
-use Rattle.message.specs.Operation.{operation}
-use Rattle.message.specs.Sender.{sequenceFound}
-use Rattle.message.proofs.SenderTests.{operation-found, operation-none}
+use Rattle.message_rules.specs.Operation.{operation}
+use Rattle.message_rules.specs.Sender.{sequenceFound}
+use Rattle.message_rules.proofs.SenderTests.{operation-found, operation-none}
 use Rattle.message.proofs.sender.sequence_at.Statement.{statement}
 use Rattle.message.proofs.sender.sequence_at.Tie as tie
 

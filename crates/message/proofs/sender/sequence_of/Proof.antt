@@ -1,7 +1,7 @@
 -- `message::sender::sequence_of` meets its contract.
 use borrow.Author.Needs.{needs}
 use borrow.Author.Tests.{eq-eqb, ne-eqb}
-use Rattle.message.specs.Sender.{sequenceOf}
+use Rattle.message_rules.specs.Sender.{sequenceOf}
 use Rattle.message.proofs.sender.sequence_of.Statement.{statement}
 use Rattle.message.proofs.sender.sequence_of.Tie as tie
 

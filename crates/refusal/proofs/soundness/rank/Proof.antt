@@ -1,6 +1,6 @@
 -- `refusal::soundness::rank` meets its contract.
 use borrow.Author.Needs.{needs}
-use Rattle.refusal.specs.Soundness.{rankOf}
+use Rattle.coherence.specs.Slots.{stateNumber}
 use Rattle.refusal.proofs.soundness.rank.Statement.{statement}
 use Rattle.refusal.proofs.soundness.rank.Tie as tie
 
@@ -14,15 +14,15 @@ enum-told-3 : tie.Need-enum-told-3
 enum-told-3 c = search needs
 
 returns : tie.Need-returns
-unfolding rankOf
+unfolding stateNumber
 returns c = search needs
 
 returns-2 : tie.Need-returns-2
-unfolding rankOf
+unfolding stateNumber
 returns-2 c = search needs
 
 returns-3 : tie.Need-returns-3
-unfolding rankOf
+unfolding stateNumber
 returns-3 c = search needs
 
 pub rank-spec : {M : Type 1} → statement M

@@ -1,5 +1,5 @@
 -- `tape::field::allows` meets its contract.
-use Rattle.tape.specs.Field.{allowed}
+use Rattle.tape_format.specs.Field.{allowed}
 use borrow.Author.Needs.{needs}
 use Rattle.tape.proofs.field.allows.Statement.{statement}
 use Rattle.tape.proofs.field.allows.Tie as tie
@@ -9,9 +9,6 @@ enum-told c = search needs
 
 enum-told-2 : tie.Need-enum-told-2
 enum-told-2 c = search needs
-
-both-requires : tie.Need-both-requires
-both-requires c κs = search needs
 
 enum-told-3 : tie.Need-enum-told-3
 enum-told-3 c = search needs
@@ -31,9 +28,6 @@ enum-told-5 c = search needs
 enum-known-rule-2 : tie.Need-enum-known-rule-2
 enum-known-rule-2 c = search needs
 
-both-requires-2 : tie.Need-both-requires-2
-both-requires-2 c κs = search needs
-
 enum-told-6 : tie.Need-enum-told-6
 enum-told-6 c = search needs
 
@@ -49,7 +43,7 @@ returns c = rw (c .enum-told .given .1)
 
 returns-2 : tie.Need-returns-2
 unfolding allowed
-returns-2 c = rw (c .both .ensures, c .before .enum-told2 .given .1)
+returns-2 c = rw (c .enum-told2 .given .1)
 
 returns-3 : tie.Need-returns-3
 unfolding allowed
@@ -69,7 +63,7 @@ returns-6 c = rw (c .enum-told5 .given .1)
 
 returns-7 : tie.Need-returns-7
 unfolding allowed
-returns-7 c = rw (c .both2 .ensures, c .before .before .rule2 .given .1)
+returns-7 c = rw (c .before .rule2 .given .1)
 
 returns-8 : tie.Need-returns-8
 unfolding allowed
@@ -89,14 +83,12 @@ allows-spec =
     (tie.spec
     enum-told
     enum-told-2
-    both-requires
     enum-told-3
     enum-told-4
     enum-known-rule
     retried-most-requires
     enum-told-5
     enum-known-rule-2
-    both-requires-2
     enum-told-6
     enum-told-7
     enum-told-8

@@ -1,6 +1,6 @@
 -- `tape::field::field` meets its contract.
 use mathlib.Core.Path.{sym, _∙_}
-use Rattle.tape.proofs.FieldLaws.{field-refused, field-allowed, field-banned}
+use Rattle.tape_format.proofs.FieldLaws.{field-refused, field-allowed, field-banned}
 use borrow.Author.Needs.{needs}
 use Rattle.tape.proofs.field.field.Statement.{statement}
 use Rattle.tape.proofs.field.field.Tie as tie

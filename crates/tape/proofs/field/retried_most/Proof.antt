@@ -1,5 +1,5 @@
 -- `tape::field::retried_most` meets its contract.
-use Rattle.tape.specs.Field.{retriedMost}
+use Rattle.tape_format.specs.Field.{retriedMost}
 use borrow.Author.Needs.{needs}
 use Rattle.tape.proofs.field.retried_most.Statement.{statement}
 use Rattle.tape.proofs.field.retried_most.Tie as tie

@@ -1,8 +1,8 @@
 -- `tape::record::read_answer` meets its contract.
 use native.Mathlib.Omega.{arith}
-use Rattle.tape.specs.Record.{answer}
-use Rattle.tape.proofs.FieldLaws.{most}
-use Rattle.tape.proofs.ReadLaws.{on, stop, made}
+use Rattle.tape_format.specs.Record.{answer}
+use Rattle.tape_format.proofs.FieldLaws.{most}
+use Rattle.tape_format.proofs.ReadLaws.{on, stop, made}
 use borrow.Author.Needs.{needs}
 use Rattle.tape.proofs.record.read_answer.Statement.{statement}
 use Rattle.tape.proofs.record.read_answer.Tie as tie

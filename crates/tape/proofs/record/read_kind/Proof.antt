@@ -1,7 +1,7 @@
 -- `tape::record::read_kind` meets its contract.
 use borrow.Author.Tests.{ne-eqb}
-use Rattle.tape.specs.Record.{layoutOf}
-use Rattle.tape.proofs.ReadLaws.{of-kind, of-no-kind}
+use Rattle.tape_format.specs.Record.{layoutOf}
+use Rattle.tape_format.proofs.ReadLaws.{of-kind, of-no-kind}
 use borrow.Author.Needs.{needs}
 use Rattle.tape.proofs.record.read_kind.Statement.{statement}
 use Rattle.tape.proofs.record.read_kind.Tie as tie

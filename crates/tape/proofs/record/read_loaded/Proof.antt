@@ -1,8 +1,8 @@
 -- `tape::record::read_loaded` meets its contract.
 use native.Mathlib.Omega.{arith}
-use Rattle.tape.specs.Record.{loaded}
-use Rattle.tape.proofs.FieldLaws.{most}
-use Rattle.tape.proofs.ReadLaws.{on, stop, made}
+use Rattle.tape_format.specs.Record.{loaded}
+use Rattle.tape_format.proofs.FieldLaws.{most}
+use Rattle.tape_format.proofs.ReadLaws.{on, stop, made}
 use borrow.Author.Needs.{needs}
 use Rattle.tape.proofs.record.read_loaded.Statement.{statement}
 use Rattle.tape.proofs.record.read_loaded.Tie as tie

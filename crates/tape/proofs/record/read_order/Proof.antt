@@ -1,8 +1,8 @@
 -- `tape::record::read_order` meets its contract.
 use native.Mathlib.Omega.{arith}
-use Rattle.tape.specs.Record.{order}
-use Rattle.tape.proofs.FieldLaws.{most}
-use Rattle.tape.proofs.ReadLaws.{on, stop, on-command, stop-command, no-command, made}
+use Rattle.tape_format.specs.Record.{order}
+use Rattle.tape_format.proofs.FieldLaws.{most}
+use Rattle.tape_format.proofs.ReadLaws.{on, stop, on-command, stop-command, no-command, made}
 use borrow.Author.Needs.{needs}
 use Rattle.tape.proofs.record.read_order.Statement.{statement}
 use Rattle.tape.proofs.record.read_order.Tie as tie

@@ -1,7 +1,7 @@
 -- `tape::record::read_record` meets its contract.
 use borrow.Author.Tests.{eq-eqb, ne-eqb}
-use Rattle.tape.specs.Record.{recordAt}
-use Rattle.tape.proofs.ReadLaws.{then, ended}
+use Rattle.tape_format.specs.Record.{recordAt}
+use Rattle.tape_format.proofs.ReadLaws.{then, ended}
 use borrow.Author.Needs.{needs}
 use Rattle.tape.proofs.record.read_record.Statement.{statement}
 use Rattle.tape.proofs.record.read_record.Tie as tie

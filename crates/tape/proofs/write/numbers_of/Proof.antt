@@ -1,6 +1,6 @@
 -- `tape::write::numbers_of` meets its contract.
 use mathlib.Core.Path.{refl}
-use Rattle.tape.specs.Record.{kindOf, fieldsOf}
+use Rattle.tape_format.specs.Record.{kindOf, fieldsOf}
 use borrow.Author.Needs.{needs}
 use Rattle.tape.proofs.write.numbers_of.Statement.{statement}
 use Rattle.tape.proofs.write.numbers_of.Tie as tie

@@ -3,7 +3,7 @@ use mathlib.Core.Path.{sym, ap, _∙_}
 use native.Mathlib.Omega.{arith}
 use lib.ListN.{length}
 use lib.Seq.{length-take-le}
-use Rattle.tape.proofs.WriteLaws.{write-invalid, write-no-room, write-done, space-filled, bytes-of-numbers}
+use Rattle.tape_format.proofs.WriteLaws.{write-invalid, write-no-room, write-done, space-filled, bytes-of-numbers}
 use borrow.Author.Needs.{needs}
 use Rattle.tape.proofs.write.write_record.Statement.{statement}
 use Rattle.tape.proofs.write.write_record.Tie as tie

@@ -1,0 +1,152 @@
+-- Each case of document 01's "What an access does" once, on one slot of the four units, with all that the call answers and leaves: orders, value, slots and
+-- bytes written out. Peek and cold start likewise. Each is a computation on the definitions that the contracts cite.
+use Prim.Native.Nat.{ℕ, _*_}
+use mathlib.Core.Path.{_≡_}
+use mathlib.Core.Bool.{true, false}
+use mathlib.Core.List.{List, [], _∷_, _++_}
+use lib.ListN.{drop, replicate}
+use Rattle.order.specs.declared.Command.the-variants.{Read, ModifiedRead, Invalidate, Copyback}
+use Rattle.order.specs.declared.Order.{Order}
+use Rattle.coherence.specs.declared.Call.{Call}
+use Rattle.coherence.specs.declared.Call.the-variants.{Load, Store, Flush}
+use Rattle.coherence.specs.declared.Slot.{Slot}
+use Rattle.coherence.specs.declared.Slot.the-variants.{Invalid, Shared, Modified}
+use Rattle.coherence.specs.declared.Directory.{Directory}
+use Rattle.coherence.specs.Slots.{emptyEntry}
+use Rattle.coherence.specs.Calls.{answer, memoryAfter, cacheAfter, startAnswer, cacheStarted}
+use Rattle.coherence.specs.Peek.{peeked, peekFromCache, peekOffset}
+use Rattle.coherence.specs.Sentences.{by}
+use Rattle.coherence.specs.Demand3.{ordersIn}
+
+-- slot 2 of units 0 to 3, all other slots invalid
+unfoldable pub slotTwo : Slot → Slot → Slot → Slot → Directory
+slotTwo a b c e =
+    record {
+      slots =
+          replicate 2 emptyEntry ++ (record { slot = a } ∷ replicate 15 emptyEntry)
+          ++ (record { slot = b } ∷ replicate 15 emptyEntry)
+          ++ (record { slot = c } ∷ replicate 15 emptyEntry)
+          ++ (record { slot = e } ∷ replicate 13 emptyEntry);
+    }
+
+-- memory has 7 in every byte; the caches of units 0 to 3 have 10, 11, 12 and 13
+unfoldable pub sevens : List ℕ
+sevens = replicate 2048 7
+
+-- the caches, with unit 1's part as given
+unfoldable pub caches : List ℕ → List ℕ
+caches x = replicate 512 10 ++ x ++ replicate 512 12 ++ replicate 512 13
+
+unfoldable pub elevens : List ℕ
+elevens = replicate 512 11
+
+-- unit 1's part, its slot 2 being x
+unfoldable pub withSlot : List ℕ → List ℕ
+withSlot x = replicate 64 11 ++ x ++ replicate 416 11
+
+-- memory, its block b being all x, and c blocks after it
+unfoldable pub withBlock : ℕ → ℕ → ℕ → List ℕ
+withBlock b x c = replicate (32 * b) 7 ++ replicate 32 x ++ replicate (32 * c) 7
+
+-- 32 bytes x, but the word 300 at byte 8
+unfoldable pub withWord : ℕ → List ℕ
+withWord x = replicate 8 x ++ (0 ∷ 0 ∷ 1 ∷ 44 ∷ replicate 20 x)
+
+-- the call c on the directory d: its value and its orders, and the directory, the memory store and unit 1's part of the caches that it leaves
+pub record Row (d : Directory) (c : Call) (n : ℕ) (os : List Order) (e : Directory) (m k : List ℕ) : Type 0 where
+  pub accepts : answer d sevens (caches elevens) c .refusal ≡ 0
+  pub value : answer d sevens (caches elevens) c .value ≡ n
+  pub orders : ordersIn (answer d sevens (caches elevens) c) ≡ os
+  pub directory : answer d sevens (caches elevens) c .directory ≡ e
+  pub memory : memoryAfter d sevens (caches elevens) c ≡ m
+  pub cache : cacheAfter d sevens (caches elevens) c ≡ caches k
+
+-- the call c refused with number n: "no orders, .. every other number 0 .., and leaves directory, .. stores .. unchanged"
+pub record RefusedRow (d : Directory) (c : Call) (n : ℕ) : Type 0 where
+  pub refused : answer d sevens (caches elevens) c .refusal ≡ n
+  pub value : answer d sevens (caches elevens) c .value ≡ 0
+  pub orders : ordersIn (answer d sevens (caches elevens) c) ≡ []
+  pub directory : answer d sevens (caches elevens) c .directory ≡ d
+  pub memory : memoryAfter d sevens (caches elevens) c ≡ sevens
+  pub cache : cacheAfter d sevens (caches elevens) c ≡ caches elevens
+
+-- unit 1 calls; address 72 is byte 8 of block 2, and blocks 18 and 34 have the same slot
+pub record Rows : Type 0 where
+  -- "Load, b held: no order."
+  pub loadShared : Row (slotTwo Invalid (Shared 2) Invalid (Shared 2)) (Load 1 72) 185273099
+      []
+      (slotTwo Invalid (Shared 2) Invalid (Shared 2)) sevens elevens
+  pub loadModified : Row (slotTwo Invalid (Modified 2) Invalid (Shared 18)) (Load 1 72) 185273099
+      []
+      (slotTwo Invalid (Modified 2) Invalid (Shared 18)) sevens elevens
+  -- "Order read (load) .. The block is filled from memory. Load: SU." Other holders stay.
+  pub loadMissed : Row (slotTwo (Shared 2) Invalid (Shared 18) (Shared 2)) (Load 1 72) 117901063
+      (by 1 Read 2 false ∷ [])
+      (slotTwo (Shared 2) (Shared 2) (Shared 18) (Shared 2)) sevens (withSlot (replicate 32 7))
+  -- "If another unit holds b EM, that order is retried, the holder gives copyback and becomes SU, and u gives the same order again, not retried."
+  pub loadRetried : Row (slotTwo (Modified 2) (Shared 34) (Modified 18) Invalid) (Load 1 72) 168430090
+      (by 1 Read 2 true ∷ by 0 Copyback 2 false ∷ by 1 Read 2 false ∷ [])
+      (slotTwo (Shared 2) (Shared 2) (Modified 18) Invalid) (withBlock 2 10 61) (withSlot (replicate 32 10))
+  -- "if the slot is EM with another block, order copyback of that block by u."
+  pub loadEvicts : Row (slotTwo (Shared 2) (Modified 18) Invalid (Shared 34)) (Load 1 72) 117901063
+      (by 1 Copyback 18 false ∷ by 1 Read 2 false ∷ [])
+      (slotTwo (Shared 2) (Shared 2) Invalid (Shared 34)) (withBlock 18 11 45) (withSlot (replicate 32 7))
+  -- "Store, b EM: no order." "A store writes its word in u's cache only."
+  pub storeModified : Row (slotTwo (Shared 18) (Modified 2) Invalid (Shared 18)) (Store 1 72 300) 0
+      []
+      (slotTwo (Shared 18) (Modified 2) Invalid (Shared 18)) sevens (withSlot (withWord 11))
+  -- "Store, b SU: order invalidate; other units holding b become I; the slot becomes EM."
+  pub storeShared : Row (slotTwo (Shared 2) (Shared 2) (Shared 18) (Shared 2)) (Store 1 72 300) 0
+      (by 1 Invalidate 2 false ∷ [])
+      (slotTwo Invalid (Modified 2) (Shared 18) Invalid) sevens (withSlot (withWord 11))
+  -- "Order .. modified read (store) .. Store: other holders become I, the slot becomes EM."
+  pub storeMissed : Row (slotTwo (Shared 2) (Shared 34) (Modified 18) (Shared 2)) (Store 1 72 300) 0
+      (by 1 ModifiedRead 2 false ∷ [])
+      (slotTwo Invalid (Modified 2) (Modified 18) Invalid) sevens (withSlot (withWord 7))
+  pub storeRetried : Row (slotTwo (Shared 34) Invalid (Shared 34) (Modified 2)) (Store 1 72 300) 0
+      (by 1 ModifiedRead 2 true ∷ by 3 Copyback 2 false ∷ by 1 ModifiedRead 2 false ∷ [])
+      (slotTwo (Shared 34) (Modified 2) (Shared 34) Invalid) (withBlock 2 13 61) (withSlot (withWord 13))
+  pub storeEvicts : Row (slotTwo (Shared 2) (Modified 18) Invalid (Shared 34)) (Store 1 72 300) 0
+      (by 1 Copyback 18 false ∷ by 1 ModifiedRead 2 false ∷ [])
+      (slotTwo Invalid (Modified 2) Invalid (Shared 34)) (withBlock 18 11 45) (withSlot (withWord 7))
+  -- "Flush: EM gives a copyback; a held slot becomes I." "its 32 bytes in the cache store stay"
+  pub flushModified : Row (slotTwo (Shared 18) (Modified 2) Invalid (Modified 34)) (Flush 1 2) 0
+      (by 1 Copyback 2 false ∷ [])
+      (slotTwo (Shared 18) Invalid Invalid (Modified 34)) (withBlock 2 11 61) elevens
+  pub flushShared : Row (slotTwo (Shared 2) (Shared 2) Invalid (Shared 18)) (Flush 1 2) 0
+      []
+      (slotTwo (Shared 2) Invalid Invalid (Shared 18)) sevens elevens
+  -- "Not held: accepted, no orders."
+  pub flushOther : Row (slotTwo (Shared 2) (Modified 18) Invalid (Shared 2)) (Flush 1 2) 0
+      []
+      (slotTwo (Shared 2) (Modified 18) Invalid (Shared 2)) sevens elevens
+  pub flushOtherShared : Row (slotTwo (Modified 2) (Shared 18) Invalid Invalid) (Flush 1 2) 0
+      []
+      (slotTwo (Modified 2) (Shared 18) Invalid Invalid) sevens elevens
+  -- block 2 is EM in unit 1 and valid in unit 3; unit 4 is none; 74 is not a multiple of 4
+  pub broken : RefusedRow (slotTwo Invalid (Modified 2) Invalid (Shared 2)) (Flush 1 2) 2
+  pub noUnit : RefusedRow (slotTwo Invalid (Shared 2) Invalid Invalid) (Load 4 74) 3
+  pub badAddress : RefusedRow (slotTwo Invalid (Modified 2) Invalid Invalid) (Store 1 74 300) 4
+
+-- "from the cache store where some unit has it EM, and from memory in every other case", "those bytes themselves"
+pub record Peeks : Type 0 where
+  pub shared : peeked (slotTwo Invalid (Shared 2) (Modified 18) Invalid) sevens (caches elevens) 2 ≡ replicate 32 7
+  pub sharedFromCache : peekFromCache (slotTwo Invalid (Shared 2) (Modified 18) Invalid) sevens (caches elevens) 2 ≡ false
+  pub sharedOffset : peekOffset (slotTwo Invalid (Shared 2) (Modified 18) Invalid) sevens (caches elevens) 2 ≡ 64
+  pub modified : peeked (slotTwo Invalid (Shared 2) (Modified 18) Invalid) sevens (caches elevens) 18 ≡ replicate 32 12
+  pub modifiedFromCache : peekFromCache (slotTwo Invalid (Shared 2) (Modified 18) Invalid) sevens (caches elevens) 18 ≡ true
+  pub modifiedOffset : peekOffset (slotTwo Invalid (Shared 2) (Modified 18) Invalid) sevens (caches elevens) 18 ≡ 1088
+
+-- "all slots invalid, cache store all zeros"; "Cold start tests 1 alone; refused, its directory is all invalid", "and leaves .. stores .. unchanged"
+pub record Starts : Type 0 where
+  pub cache : cacheStarted sevens (caches elevens) ≡ replicate 2048 0
+  pub directory : startAnswer sevens (caches elevens) .directory ≡ slotTwo Invalid Invalid Invalid Invalid
+  pub shortMemory : startAnswer (drop 1 sevens) (caches elevens) .refusal ≡ 1
+  pub shortMemoryDirectory : startAnswer (drop 1 sevens) (caches elevens) .directory ≡ slotTwo Invalid Invalid Invalid Invalid
+  pub shortMemoryCache : cacheStarted (drop 1 sevens) (caches elevens) ≡ caches elevens
+  pub shortCache : cacheStarted sevens (drop 1 (caches elevens)) ≡ drop 1 (caches elevens)
+
+pub record AccessRows : Type 0 where
+  pub rows : Rows
+  pub peeks : Peeks
+  pub starts : Starts

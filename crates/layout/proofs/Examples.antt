@@ -1,0 +1,24 @@
+-- The bytes and numbers of the examples, computed from the definitions.
+use mathlib.Core.Path.{refl}
+use Rattle.order.specs.Command.{commandNumber}
+use Rattle.order.specs.Flag.{flag}
+use Rattle.coherence.specs.Slots.{slotAt, setSlot, blockOf, coldDirectory}
+use Rattle.coherence.specs.Calls.{packed}
+use Rattle.layout.specs.Directory.{stateOf, slotBytes, encoded, directoryPut, slotSpelled}
+use Rattle.layout.specs.Answer.{orderNumbers, ordersNumbers, answerNumbers, answerPut}
+use Rattle.layout.specs.Examples.{mixed, twoOrders, Examples}
+
+pub examples : Examples
+unfolding
+    commandNumber flag slotAt setSlot blockOf coldDirectory packed stateOf slotBytes encoded directoryPut slotSpelled
+    orderNumbers ordersNumbers answerNumbers answerPut mixed twoOrders
+examples =
+    record {
+      directory = refl;
+      noSlots = (refl, refl);
+      answer = refl;
+      directoryBehind = refl;
+      directoryShort = refl;
+      answerBehind = refl;
+      answerShort = refl;
+    }

@@ -1,0 +1,38 @@
+-- Each record in its bytes, by computing the definitions.
+use mathlib.Core.Path.{refl}
+use mathlib.Core.Option.{Option·elim}
+use Rattle.order.specs.Command.{commandNumber, commandOf}
+use Rattle.order.specs.Flag.{flag}
+use Rattle.number.specs.Number.{limitOf, carried, readGroups, refusing, numberAt, spellGroups, spell, spellAll, filled}
+use Rattle.tape_format.specs.Field.{retriedMost, allowed, ruled, fieldAt}
+use Rattle.tape_format.specs.Record.{load, store, flush, order, answer, register, loaded, layoutOf, andThen, andCommand, fieldsAt, kindAt, recordAt, recordTold, kindOf, fieldsOf, fits, fitsCommand}
+use Rattle.tape_format.specs.Write.{valid, bytesOf, writtenOf, spaceAfter}
+use Rattle.tape_format.specs.Examples.{Spelled, ordered, toldOf, refusedAt, Examples}
+
+pub examples : Examples
+unfolding Option·elim commandNumber commandOf limitOf carried readGroups refusing numberAt spellGroups spell spellAll filled retriedMost allowed ruled fieldAt flag load store flush order answer register loaded layoutOf andThen andCommand fieldsAt kindAt recordAt recordTold kindOf fieldsOf fits fitsCommand valid bytesOf writtenOf spaceAfter Spelled ordered toldOf refusedAt
+examples =
+    record {
+      kind0 = (refl, refl, refl);
+      kind1 = (refl, refl, refl);
+      kind2 = (refl, refl, refl);
+      kind3 = (refl, refl, refl);
+      notRetried = (refl, refl, refl);
+      modifiedRead = (refl, refl, refl);
+      invalidate = (refl, refl, refl);
+      copyback = (refl, refl, refl);
+      kind4 = (refl, refl, refl);
+      kind5 = (refl, refl, refl);
+      registerRead = (refl, refl, refl);
+      kind6 = (refl, refl, refl);
+      unknown = refl;
+      range = refl;
+      noCommand = refl;
+      spelling = refl;
+      missing = refl;
+      toClash = refl;
+      retriedClash = refl;
+      pastEnd = refl;
+      finished = refl;
+      told = refl;
+    }

@@ -1,0 +1,60 @@
+-- Records in their bytes, both ways: each kind with fields that differ from one another, so that none can stand for another; an order with each command, each
+-- flag as 0 and as 1. Then one refusal of each sort, with its place.
+use Prim.Native.Nat.{ℕ}
+use mathlib.Core.Path.{_≡_}
+use mathlib.Core.Bool.{Bool, true, false}
+use mathlib.Core.List.{List, [], _∷_}
+use lib.ListN.{length, replicate}
+use Rattle.order.specs.declared.Command.{Command}
+use Rattle.order.specs.declared.Command.the-variants.{Read, ModifiedRead, Invalidate, Copyback}
+use Rattle.number.specs.Number.{Told}
+use Rattle.tape_format.specs.declared.Record.{Record}
+use Rattle.tape_format.specs.declared.Record.the-variants as rec
+use Rattle.tape_format.specs.declared.RecordRead.the-variants as read
+use Rattle.tape_format.specs.declared.Written.the-variants as wrote
+use Rattle.tape_format.specs.Record.{recordAt, recordTold}
+use Rattle.tape_format.specs.Write.{writtenOf, spaceAfter}
+
+-- the bytes are read as the record, and the record is written as the bytes
+unfoldable pub Spelled : List ℕ → Record → Type 0
+Spelled bytes r =
+    (recordAt bytes 0 ≡ read.Record r (length bytes))
+    × (writtenOf r (length bytes) ≡ wrote.Bytes (length bytes))
+    × (spaceAfter r (replicate (length bytes) 0) ≡ bytes)
+
+unfoldable pub ordered : ℕ → Command → ℕ → Bool → Record
+ordered unit command block retried = rec.Order (record { unit = unit; command = command; block = block; retried = retried })
+
+-- reading from the first byte on, in document 01's numbers
+unfoldable pub toldOf : List ℕ → Told
+toldOf bytes = recordTold 0 (recordAt bytes 0)
+
+unfoldable pub refusedAt : ℕ → ℕ → Told
+refusedAt number place = record { refusal = number; place = place; numbers = [] }
+
+pub record Examples : Type 0 where
+  pub kind0 : Spelled (0x00 ∷ 0x01 ∷ 0x48 ∷ []) (rec.Load 1 72)
+  pub kind1 : Spelled (0x01 ∷ 0x02 ∷ 0x48 ∷ 0xAC ∷ 0x02 ∷ []) (rec.Store 2 72 300)
+  pub kind2 : Spelled (0x02 ∷ 0x03 ∷ 0x3F ∷ []) (rec.Flush 3 63)
+  pub kind3 : Spelled (0x03 ∷ 0x02 ∷ 0x00 ∷ 0x28 ∷ 0x01 ∷ []) (ordered 2 Read 40 true)
+  pub notRetried : Spelled (0x03 ∷ 0x02 ∷ 0x01 ∷ 0x28 ∷ 0x00 ∷ []) (ordered 2 ModifiedRead 40 false)
+  pub modifiedRead : Spelled (0x03 ∷ 0x00 ∷ 0x01 ∷ 0x28 ∷ 0x01 ∷ []) (ordered 0 ModifiedRead 40 true)
+  pub invalidate : Spelled (0x03 ∷ 0x01 ∷ 0x02 ∷ 0x28 ∷ 0x00 ∷ []) (ordered 1 Invalidate 40 false)
+  pub copyback : Spelled (0x03 ∷ 0x02 ∷ 0x03 ∷ 0x28 ∷ 0x00 ∷ []) (ordered 2 Copyback 40 false)
+  pub kind4 : Spelled (0x04 ∷ 0x01 ∷ 0x02 ∷ 0xC8 ∷ 0x01 ∷ 0x83 ∷ 0x01 ∷ []) (rec.Answer 1 2 200 131)
+  pub kind5 : Spelled (0x05 ∷ 0x07 ∷ 0x06 ∷ 0x09 ∷ 0x01 ∷ 0xAC ∷ 0x02 ∷ 0x04 ∷ []) (rec.Register 7 6 9 true 300 4)
+  pub registerRead : Spelled (0x05 ∷ 0x01 ∷ 0x03 ∷ 0x09 ∷ 0x00 ∷ 0xAC ∷ 0x02 ∷ 0x04 ∷ []) (rec.Register 1 3 9 false 300 4)
+  pub kind6 : Spelled (0x06 ∷ 0x03 ∷ 0xAC ∷ 0x02 ∷ []) (rec.Loaded 3 300)
+  -- "the place where the refused number starts": kind 7; a unit of 4; command 4; the spelling of an address; a missing value
+  pub unknown : toldOf (0x07 ∷ 0x00 ∷ []) ≡ refusedAt 7 0
+  pub range : toldOf (0x00 ∷ 0x04 ∷ 0x00 ∷ []) ≡ refusedAt 8 1
+  pub noCommand : toldOf (0x03 ∷ 0x00 ∷ 0x04 ∷ 0x00 ∷ 0x00 ∷ []) ≡ refusedAt 8 2
+  pub spelling : toldOf (0x00 ∷ 0x00 ∷ 0xC8 ∷ 0x84 ∷ 0x00 ∷ []) ≡ refusedAt 6 2
+  pub missing : toldOf (0x01 ∷ 0x00 ∷ 0xC8 ∷ 0x04 ∷ []) ≡ refusedAt 5 4
+  -- "the later if two clash": `to` with `from`, `retried` with the command
+  pub toClash : toldOf (0x04 ∷ 0x05 ∷ 0x05 ∷ 0x00 ∷ 0x00 ∷ []) ≡ refusedAt 8 2
+  pub retriedClash : toldOf (0x03 ∷ 0x00 ∷ 0x02 ∷ 0x00 ∷ 0x01 ∷ []) ≡ refusedAt 8 4
+  -- "or the given place if that lies past the end. A place exactly at the end of the tape means finished and is no refusal."
+  pub pastEnd : recordTold 3 (recordAt (0x00 ∷ 0x00 ∷ []) 3) ≡ refusedAt 5 3
+  pub finished : recordTold 2 (recordAt (0x00 ∷ 0x00 ∷ []) 2) ≡ record { refusal = 0; place = 2; numbers = [] }
+  pub told : toldOf (0x01 ∷ 0x02 ∷ 0x48 ∷ 0xAC ∷ 0x02 ∷ []) ≡ record { refusal = 0; place = 5; numbers = 1 ∷ 2 ∷ 72 ∷ 300 ∷ [] }

@@ -1,0 +1,8 @@
+-- The tape: records as bytes.
+pub mod Field
+pub mod Record
+pub mod Refused
+pub mod Write
+pub mod RoundTrip
+pub mod Examples
+pub mod Ranges
