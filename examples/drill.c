@@ -39,10 +39,10 @@ int main(void)
             return 1;
         printf("%s %u %u", words[n[0]], (unsigned)n[1], (unsigned)n[2]);
         if (n[0] != TRAINER_KIND_FLUSH)
-            printf(" %u", (unsigned)(n[0] == TRAINER_KIND_LOAD ? answer[0] : n[3]));
-        printf(" orders %u\n", (unsigned)answer[1]);
+            printf(" %u", (unsigned)(n[0] == TRAINER_KIND_LOAD ? answer[TRAINER_VALUE] : n[3]));
+        printf(" orders %u\n", (unsigned)answer[TRAINER_COUNT]);
         calls += 1;
-        orders += answer[1];
+        orders += answer[TRAINER_COUNT];
     }
     printf("total %u calls %u orders\n", calls, orders);
     return 0;

@@ -37,9 +37,9 @@ enum {
 
 /* ---- The cache machine */
 
-/* Processors; blocks of memory; bytes of a block; bytes of the memory store, and of the cache store. Block b lies at 32 b in memory; slot s of
- * unit u lies at 512 u + 32 s in the cache store. */
-enum { TRAINER_UNITS = 4, TRAINER_BLOCKS = 64, TRAINER_BLOCK = 32, TRAINER_STORE = 2048 };
+/* Processors; slots of each; blocks of memory; bytes of a block; bytes of the memory store, and of the cache store. Block b lies at 32 b in
+ * memory; slot s of unit u lies at 512 u + 32 s in the cache store. */
+enum { TRAINER_UNITS = 4, TRAINER_SLOTS = 16, TRAINER_BLOCKS = 64, TRAINER_BLOCK = 32, TRAINER_STORE = 2048 };
 
 /* Bytes of the directory. Slot s of unit u stands at 2 (16 u + s): its state, then its block (0 if it is invalid). Bytes that do not stand for
  * a directory that keeps the rules are refused with TRAINER_BROKEN_DIRECTORY. */
@@ -51,9 +51,9 @@ enum { TRAINER_INVALID = 0, TRAINER_SHARED = 1, TRAINER_MODIFIED = 2 };
 /* The commands of an order. */
 enum { TRAINER_READ = 0, TRAINER_MODIFIED_READ = 1, TRAINER_INVALIDATE = 2, TRAINER_COPYBACK = 3 };
 
-/* Numbers in the answer of a call: the loaded value (0 for a store and a flush), how many orders were given, and four orders of four
- * numbers: unit, command, block, retried (0 or 1). Orders that were not given are 0. */
-enum { TRAINER_ANSWER = 18 };
+/* Numbers in the answer of a call: the loaded value (0 for a store and a flush), how many orders were given, and from TRAINER_FIRST_ORDER on
+ * TRAINER_ORDERS orders of TRAINER_ORDER numbers: unit, command, block, retried (0 or 1). Orders that were not given are 0. */
+enum { TRAINER_ANSWER = 18, TRAINER_VALUE = 0, TRAINER_COUNT = 1, TRAINER_FIRST_ORDER = 2, TRAINER_ORDERS = 4, TRAINER_ORDER = 4 };
 
 /* The stores that trainer_peek names. */
 enum { TRAINER_IN_MEMORY = 0, TRAINER_IN_CACHE = 1 };
@@ -148,8 +148,11 @@ uint32_t trainer_check(uint64_t word, uint32_t set, uint32_t *wrong, uint32_t *c
  * (BCT above 7). */
 uint32_t trainer_lanes(uint32_t ra, uint32_t bct, uint32_t *words, uint32_t *positions);
 
-/* The levels in a cycle, 1 to cycles, of a transfer of that many cycles, 1 to 64, locked (1) or not (0): BS, BUR and ET in that cycle, and ET at the
- * request; 1 is asserted. Refusal: 8 (a number out of these). */
+/* The most cycles of a transfer. */
+enum { TRAINER_CYCLES = 64 };
+
+/* The levels in a cycle, 1 to cycles, of a transfer of that many cycles, 1 to TRAINER_CYCLES, locked (1) or not (0): BS, BUR and ET in that
+ * cycle, and ET at the request; 1 is asserted. Refusal: 8 (a number out of these). */
 uint32_t trainer_plan(uint32_t cycles, uint32_t cycle, uint32_t locked,
                       uint32_t *bs, uint32_t *bur, uint32_t *et, uint32_t *et_at_request);
 
@@ -175,6 +178,9 @@ uint32_t trainer_class(uint32_t code, uint32_t *class_number, uint32_t *carried,
 uint32_t trainer_code(uint32_t class_number, uint32_t carried, uint32_t *code);
 
 /* ---- The bus handler */
+
+/* The units of the bus, which a handler grants. */
+enum { TRAINER_BUS_UNITS = 8 };
 
 /* Numbers of a handler's state: last high unit, last low unit, and the lock's owner, TRAINER_NO_OWNER for none. Numbers that do not stand for a
  * state this way are refused with TRAINER_BAD_STATE. */

@@ -1,4 +1,5 @@
-//! Holds parity, lanes, signals and answer codes of the proved library against the second implementation: all of the small inputs, words at random.
+//! Holds parity, lanes, signals and answer codes of the proved library against the second implementation: all of the small inputs, every byte of a word
+//! and words at random, and that each number of refusal was met.
 mod common;
 
 use common::{code_of, same, Counts};
@@ -10,6 +11,35 @@ const UNTOUCHED: u32 = 0xA5A5_A5A5;
 /// Numbers about the borders, and far from them.
 const FAR: [u32; 9] = [8, 65, 254, 255, 256, 257, 65_536, 1 << 31, u32::MAX];
 
+fn check_both(counts: &mut Counts, word: u64, set: u32) {
+    let (mut wrong, mut count) = (UNTOUCHED, UNTOUCHED);
+    let number = archive::check(word, set, &mut wrong, &mut count);
+    let expected = bus::check(word, set);
+    same("a check", &(word, set), (number, wrong, count), expected.map_or((code_of(&expected), UNTOUCHED, UNTOUCHED), |(w, c)| (0, w, c)));
+    counts.one("checks", number);
+}
+
+fn parity_both(counts: &mut Counts, word: u64) {
+    same("a parity", &word, archive::parity(word), bus::parity(word));
+    counts.seen("parities");
+}
+
+/// Every value of every byte, among bytes of zeros, of ones and of others, each beside all 256 sets.
+fn bytes(counts: &mut Counts) {
+    for place in 0..8 {
+        for byte in 0..256u64 {
+            for rest in [0, u64::MAX, 0x0102_0408_1020_4080] {
+                let word = rest & !(0xFF << (8 * place)) | byte << (8 * place);
+                parity_both(counts, word);
+                for set in 0..256 {
+                    check_both(counts, word, set);
+                }
+            }
+        }
+    }
+}
+
+/// Words at random, single bits, all but single bits, and parts of words.
 fn words(counts: &mut Counts) {
     let mut random = Random::new(6_000_000);
     for n in 0..400_000 {
@@ -20,18 +50,13 @@ fn words(counts: &mut Counts) {
             2 => !(1 << random.below(64)),
             _ => u64::from(low) << random.below(33),
         };
-        same("a parity", &word, archive::parity(word), bus::parity(word));
-        counts.seen("parities");
+        parity_both(counts, word);
         let set = match n % 3 {
             0 => bus::parity(word) ^ 1 << random.below(8),
             1 => random.below(256),
             _ => random.pick(&FAR),
         };
-        let (mut wrong, mut count) = (UNTOUCHED, UNTOUCHED);
-        let number = archive::check(word, set, &mut wrong, &mut count);
-        let expected = bus::check(word, set);
-        same("a check", &(word, set), (number, wrong, count), expected.map_or((code_of(&expected), UNTOUCHED, UNTOUCHED), |(w, c)| (0, w, c)));
-        counts.one("checks", number);
+        check_both(counts, word, set);
     }
 }
 
@@ -82,10 +107,12 @@ fn codes(counts: &mut Counts) {
 
 fn main() {
     let mut counts = Counts::default();
+    bytes(&mut counts);
     words(&mut counts);
     lanes(&mut counts);
     plans(&mut counts);
     codes(&mut counts);
+    counts.expect(&[("checks", &[0, 8]), ("lanes", &[0, 8]), ("plans", &[0, 8]), ("classes", &[0, 8]), ("codes", &[0, 8])]);
     println!("the bus, compared with no difference:");
     counts.print();
 }

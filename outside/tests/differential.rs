@@ -91,8 +91,9 @@ fn random_call(random: &mut Random, blocks: u32) -> Call {
 
 /// Lists of calls after a cold start, each call on what the last one left.
 fn lists_of_calls(counts: &mut Counts) {
-    for seed in 0..1200 {
+    for seed in 0..1204 {
         let mut random = Random::new(seed);
+        let length = if seed < 1200 { 200 } else { 25_000 };
         let memory: Vec<u8> = (0..STORE_BYTES).map(|_| random.byte()).collect();
         let mut lent = Lent {
             directory: (0..DIRECTORY_BYTES).map(|_| random.byte()).collect(),
@@ -104,7 +105,7 @@ fn lists_of_calls(counts: &mut Counts) {
         same("the cold start of a list", &seed, code, 0);
         let mut machine = Machine::cold(&lent.memory);
         let blocks = 1 + random.below(4);
-        for step in 0..200 {
+        for step in 0..length {
             let call = random_call(&mut random, blocks);
             let reply = machine.call(call);
             let code = lent.call(call);
@@ -408,7 +409,7 @@ fn drills(counts: &mut Counts) {
         let records = random.below(200);
         let damage = random.one_in(3);
         let tape = random_tape(counts, &mut random, records, damage);
-        let space = if random.one_in(10) { random.below(3000) as usize } else { 1 << 20 };
+        let space = if random.one_in(10) { random.below(3000) as usize } else { 1 << 15 };
         drill_both(counts, &tape, space);
     }
     for seed in 0..6 {
@@ -434,6 +435,9 @@ fn main() {
     tapes(&mut counts);
     drills(&mut counts);
     let calls: u64 = ["loads", "stores", "flushes"].iter().map(|what| counts.compared[what]).sum();
+    let access: &[u32] = &[0, 1, 2, 3, 4, 9];
+    counts.expect(&[("cold starts", &[0, 1, 9]), ("loads", access), ("stores", access), ("flushes", access), ("peeks", &[0, 1, 2, 4])]);
+    counts.expect(&[("records read", &[0, 5, 6, 7, 8, 9]), ("records written", &[0, 7, 8, 9]), ("drills", &[0, 9])]);
     println!("compared, with no difference:");
     println!("  {calls} calls");
     counts.print();

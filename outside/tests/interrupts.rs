@@ -180,6 +180,7 @@ fn main() {
     flipped(&mut counts);
     upper_fields(&mut counts);
     random_cycles(&mut counts);
+    counts.expect(&[("cycles read", &[0, 7, 8, 17]), ("interrupts written", &[0, 8])]);
     println!("interrupts, compared with no difference:");
     counts.print();
 }

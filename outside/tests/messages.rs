@@ -310,6 +310,7 @@ fn main() {
     let mut counts = Counts::default();
     single_operations(&mut counts);
     whole_messages(&mut counts);
+    counts.expect(&[("operations received", &[0, 1, 8, 9, 10, 11, 12]), ("messages cut", &[0, 8, 9]), ("operations cut", &[0, 8, 9])]);
     println!("messages, compared with no difference:");
     counts.print();
 }

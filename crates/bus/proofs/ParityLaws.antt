@@ -7,7 +7,7 @@ use native.Mathlib.Omega.{arith}
 use lib.Pow.{pow-add, pow-mono, shl-exact, shr-shr, field, mod-mod-pow}
 use lib.Count.{ones, ones-step}
 use Rattle.numeric.specs.Bits.{sumBelow, bitAt, onesBelow, fromBits, flipped}
-use Rattle.bus.specs.Parity.{byteAt, parityBit, parityOf, wrongBit, wrongAt, wrongOf, checkOf}
+use Rattle.bus.specs.Parity.{byteAt, parityBit, parityOf, wrongBit, wrongAt, wrongOf, checkOf, SevenWrong}
 use Rattle.numeric.proofs.BitsLaws.{ones-count, from-step, from-none, from-lt, sum-same, sum-zero, sum-but, bit-of-zero, bit-from, ones-from, bit-flip, bit-other, from-flip}
 
 -- a byte and its parity bit together have an odd count of ones
@@ -171,3 +171,7 @@ flip-word word set i l =
   where
     stays : (k : ℕ) → k < 8 → (k ≡ 7 - i / 8 → ⊥) → wrongAt (flipped i word) set k ≡ wrongAt word set k
     stays k m d = ap (λ (n : ℕ). 1 - (n + bitAt k set) % 2) (ones-other word i k (λ (e : 7 - k ≡ i / 8). d (omega arith)))
+
+pub seven-wrong : SevenWrong
+unfolding SevenWrong checkOf wrongOf wrongAt wrongBit byteAt fromBits onesBelow bitAt sumBelow
+seven-wrong = refl

@@ -1,6 +1,7 @@
 -- Parity of a 64-bit word (document 01, "Parity, lanes, levels"; the standard's 2.1, item 19).
 -- Odd: a byte and its parity bit together hold an odd count of ones. Which byte is byte 0, and the weights, are house rules.
 use Prim.Native.Nat.{ℕ, _+_, _-_, _/_, _%_, _^_}
+use mathlib.Core.Path.{_≡_}
 use Rattle.numeric.specs.Bits.{sumBelow, bitAt, onesBelow, fromBits}
 use Rattle.bus.specs.declared.parity.Checked.{Checked}
 
@@ -31,3 +32,7 @@ wrongOf word set = fromBits 8 (wrongAt word set)
 -- the set of wrong bytes, and how many bytes are wrong
 unfoldable pub checkOf : ℕ → ℕ → Checked
 checkOf word set = record { wrong = wrongOf word set; count = sumBelow 8 (wrongAt word set) }
+
+-- byte 0 of the word has one 1 and the others none: beside no parity bit the other seven are wrong
+unfoldable pub SevenWrong : Type 0
+SevenWrong = checkOf 0x0100_0000_0000_0000 0 ≡ record { wrong = 254; count = 7 }

@@ -1,2 +1,3 @@
 pub mod BusLaws
 pub mod ClassLaws
+pub mod Examples

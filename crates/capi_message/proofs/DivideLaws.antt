@@ -13,12 +13,12 @@ use Rattle.message_rules.specs.Operation.{operation}
 use Rattle.message_rules.specs.Sender.{operationCount, division, partOf, operationAt, partFound, partOffset}
 use Rattle.message_rules.proofs.SenderTests.{operation-found, operation-none}
 use Rattle.message_rules.proofs.SenderLaws.{division-refusal, division-count}
-use Rattle.capi_message.specs.Layout.{senderFrom, aidFrom}
+use Rattle.crossing.specs.Capped.{capped}
 use Rattle.capi_message.specs.Divide.{divideReturned, divideOperations, operationOffset, operationLength, Marks}
 
 -- ---- a division's number of refusal
 
-module _ (m : List ℕ) (s a : ℕ) (d : Division) (e : d ≡ division m (senderFrom s) (aidFrom a)) where
+module _ (m : List ℕ) (s a : ℕ) (d : Division) (e : d ≡ division m (capped 255 s) (capped 65535 a)) where
   pub divide-returned : d .refusal ≡ divideReturned m s a
   unfolding divideReturned
   divide-returned = ap (λ (x : Division). x .refusal) e

@@ -7,14 +7,15 @@ use Prim.Native.Nat.{ℕ, _≤_, _<_}
 use native.Mathlib.Omega.{arith}
 use lib.Dec.{leb, eqb}
 use lib.ListN.{length, drop}
-use borrow.Author.Tests.{le-leb, lt-leb, eqb-true, eqb-false}
+use borrow.Author.Tests.{le-leb, lt-leb, leb-true, eqb-true, eqb-false}
+use Rattle.crossing.specs.Capped.{capped}
 use Rattle.message_rules.specs.declared.Sequence.{Sequence}
 use Rattle.message_rules.specs.declared.Receiver.{Receiver}
 use Rattle.message_rules.specs.declared.Receipt.{Receipt}
 use Rattle.message_rules.specs.Operation.{Operation, operation, ends}
 use Rattle.message_rules.specs.Receiver.{receiveRefusal, taken, receipt, refused, storeAfter}
 use Rattle.message_rules.proofs.ReceiverLaws.{accepted-answer, refused-answer, refused-store, answer-refusal}
-use Rattle.capi_message.specs.Layout.{senderFrom, aidFrom, receiverFrom, receiverNumbers, completionNumbers, Fits}
+use Rattle.capi_message.specs.Layout.{receiverFrom, receiverNumbers, completionNumbers, Fits}
 use Rattle.capi_message.specs.Operation.{operationFrom, operationSender}
 use Rattle.capi_message.specs.Receive.{spaced, receiveReturned, receiveReceiver, receiveStore, receiveCompletion, Follows}
 use Rattle.capi_message.proofs.LayoutLaws.{inverse}
@@ -88,24 +89,32 @@ receipt-fits r st o g h e =
     let n : receiveRefusal r st o ≡ 0 = sym (answer-refusal r st o) ∙ eqb-true _ 0 e in
     rw (accepted-answer r st o n) (taken-fits (o .sequence) (o .sender) (o .aid) _ g h)
 
+capped-most : (most n : ℕ) → capped most n ≤ most
+unfolding capped
+capped-most most n = go (leb n most) refl
+  where
+    go : (b : Bool) → leb n most ≡ b → capped most n ≤ most
+    go true e = rw e (leb-true n most e)
+    go false e = rw e (omega arith)
+
 sender-small : (q s : ℕ) → operationSender q s ≤ 255
-unfolding operationSender senderFrom
+unfolding operationSender capped
 sender-small q s = go (leb q 3) refl
   where
     go : (b : Bool) → leb q 3 ≡ b → operationSender q s ≤ 255
-    go true e = rw e (omega arith)
+    go true e = rw e (capped-most 255 s)
     go false e = rw e (omega arith)
 
 follows-receiver : (r st : List ℕ) (q s a : ℕ) (b c : List ℕ) → spaced r c ≡ true
     → receiverFrom (receiveReceiver r st (operationFrom q s a b) c) ≡ receipt (receiverFrom r) st (operationFrom q s a b) .receiver
-unfolding receiveReceiver receiveReturned operationFrom operation aidFrom
+unfolding receiveReceiver receiveReturned operationFrom operation
 follows-receiver r st q s a b c l = go (eqb (receipt (receiverFrom r) st o .refusal) 0) refl
   where
     o : Operation
     o = operationFrom q s a b
 
     go : (p : Bool) → eqb (receipt (receiverFrom r) st o .refusal) 0 ≡ p → receiverFrom (receiveReceiver r st o c) ≡ receipt (receiverFrom r) st o .receiver
-    go true e = rw (l, e) (inverse .back _ _ (receipt-fits (receiverFrom r) st o (sender-small q s) (omega arith) e))
+    go true e = rw (l, e) (inverse .back _ _ (receipt-fits (receiverFrom r) st o (sender-small q s) (capped-most 65535 a) e))
     go false e = rw (l, e) (sym (kept (receiverFrom r) st o e .0))
 
 follows-store : (r st : List ℕ) (o : Operation) (c : List ℕ) → spaced r c ≡ true → receiveStore r st o c ≡ storeAfter (receiverFrom r) st o

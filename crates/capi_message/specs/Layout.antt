@@ -1,10 +1,11 @@
 -- A receiver and a completion as a caller lends them, four numbers each.
-use Prim.Native.Nat.{ℕ, _≤_, min}
+use Prim.Native.Nat.{ℕ, _≤_}
 use mathlib.Core.Path.{_≡_}
 use mathlib.Core.Bool.{true, cond, _&&_}
 use mathlib.Core.List.{List, [], _∷_, _++_}
 use lib.ListN.{length, getD, take}
 use lib.Dec.{eqb}
+use Rattle.crossing.specs.Capped.{capped}
 use Rattle.message_rules.specs.declared.Receiver.{Receiver}
 use Rattle.message_rules.specs.declared.Receiver.the-variants.{Idle, Pending}
 use Rattle.message_rules.specs.declared.Completion.{Completion}
@@ -12,16 +13,9 @@ use Rattle.message_rules.specs.declared.Completion.the-variants.{Incomplete, Co
 use Rattle.message_rules.specs.Operation.{isSource}
 use Rattle.message_rules.specs.Receiver.{stateAllowed, completionTold}
 
--- a sender and an AID as their types hold them: any above becomes the most, which is out of range too
-unfoldable pub senderFrom : ℕ → ℕ
-senderFrom n = min n 255
-
-unfoldable pub aidFrom : ℕ → ℕ
-aidFrom n = min n 65535
-
--- so that the tests of both stay
+-- a sender in a byte and an AID in two: any above becomes the most, which is out of range too, so that the tests of both stay
 unfoldable pub Narrows : Type 0
-Narrows = (s a : ℕ) → isSource (senderFrom s) (aidFrom a) ≡ isSource s a
+Narrows = (s a : ℕ) → isSource (capped 255 s) (capped 65535 a) ≡ isSource s a
 
 -- ---- the receiver
 
@@ -41,7 +35,7 @@ noReceiver = Pending 255 0 0
 unfoldable pub receiverOf : ℕ → ℕ → ℕ → ℕ → Receiver
 receiverOf state s a n =
     cond (eqb state 0) (cond (eqb s 0 && (eqb a 0 && eqb n 0)) Idle noReceiver)
-    (cond (eqb state 1) (Pending (senderFrom s) (aidFrom a) n) noReceiver)
+    (cond (eqb state 1) (Pending (capped 255 s) (capped 65535 a) n) noReceiver)
 
 -- the receiver that the first four numbers stand for
 unfoldable pub receiverFrom : List ℕ → Receiver

@@ -9,7 +9,7 @@ use Rattle.message_rules.specs.declared.Sequence.the-variants.{Single, First, M
 use Rattle.message_rules.specs.declared.SequenceFound.{SequenceFound}
 use Rattle.message_rules.specs.declared.SequenceFound.the-variants.{Known, Nothing}
 use Rattle.message_rules.specs.Operation.{Operation, operation, isSource, sequenceNumber}
-use Rattle.capi_message.specs.Layout.{senderFrom, aidFrom}
+use Rattle.crossing.specs.Capped.{capped}
 
 -- the sequence that has the number n; a number above 3 is none, and its operation is refused
 unfoldable pub sequenceFrom : ℕ → Sequence
@@ -17,17 +17,17 @@ sequenceFrom n = cond (eqb n 0) Single (cond (eqb n 1) First (cond (eqb n 2) Mid
 
 -- the sender of an operation with the sequence number q: one above 7, refused with 8, where q is above 3
 unfoldable pub operationSender : ℕ → ℕ → ℕ
-operationSender q s = cond (leb q 3) (senderFrom s) 255
+operationSender q s = cond (leb q 3) (capped 255 s) 255
 
 unfoldable pub operationFrom : ℕ → ℕ → ℕ → List ℕ → Operation
-operationFrom q s a b = operation (sequenceFrom q) (operationSender q s) (aidFrom a) b
+operationFrom q s a b = operation (sequenceFrom q) (operationSender q s) (capped 65535 a) b
 
 -- the sequences and the numbers to 3 determine each other
 pub record Numbered : Type 0 where
   pub back : (q : Sequence) → sequenceFrom (sequenceNumber q) ≡ q
   pub forth : (n : ℕ) → n ≤ 3 → sequenceNumber (sequenceFrom n) ≡ n
   -- a number above 3 has no operation in range
-  pub none : (n s a : ℕ) → 3 < n → isSource (operationSender n s) (aidFrom a) ≡ false
+  pub none : (n s a : ℕ) → 3 < n → isSource (operationSender n s) (capped 65535 a) ≡ false
 
 -- the number of a sequence that was asked for; 0 where there is none
 unfoldable pub numberFound : SequenceFound → ℕ

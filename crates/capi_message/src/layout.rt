@@ -1,4 +1,5 @@
 // A receiver and a completion as four numbers that a caller lends.
+use crossing::byte;
 use message_rules::Completion;
 use message_rules::Receipt;
 use message_rules::Receiver;
@@ -9,21 +10,15 @@ ghost use Prim.Native.Nat.{_≤_};
 ghost use lib.Dec.{eqb};
 ghost use lib.ListN.{length, drop};
 ghost use Rattle.order.specs.Refusal.{accepted};
-ghost use Rattle.capi_message.specs.Layout.{senderFrom, aidFrom, receiverSize, receiverNumbers, receiverOf, receiverFrom, completionSize, completionNumbers};
+ghost use Rattle.crossing.specs.Capped.{capped};
+ghost use Rattle.capi_message.specs.Layout.{receiverSize, receiverNumbers, receiverOf, receiverFrom, completionSize, completionNumbers};
 
 // A sender that no operation may have.
 pub(crate) const NO_SENDER: u8 = 255;
 
-// A sender in a byte. What a byte does not hold becomes 255, which is no sender either.
-pub(crate) fn sender_from(n: u64) -> u8
-    ensures { λ r. ⌜ r ≡ senderFrom n ⌝ }
-{
-    if n <= 255 { n as u8 } else { NO_SENDER }
-}
-
 // An AID in two bytes. What they do not hold becomes 65,535, which is no AID either.
 pub(crate) fn aid_from(n: u64) -> u16
-    ensures { λ r. ⌜ r ≡ aidFrom n ⌝ }
+    ensures { λ r. ⌜ r ≡ capped 65535 n ⌝ }
 {
     if n <= 65535 { n as u16 } else { 65535 }
 }
@@ -47,7 +42,7 @@ fn receiver_of(state: u64, sender: u64, aid: u64, count: u64) -> Receiver
             }
         }
         1 => Receiver::Pending {
-            sender: sender_from(sender),
+            sender: byte(sender),
             aid: aid_from(aid),
             count: count as usize,
         },

@@ -3,11 +3,10 @@
 mod layout;
 mod operation;
 
+use crossing::byte;
 use layout::aid_from;
 use layout::hand_over;
 use layout::receiver_from;
-use layout::sender_from;
-use operation::division_of;
 use operation::length_at;
 use operation::number_at;
 use operation::offset_at;
@@ -56,7 +55,9 @@ pub extern "C" fn trainer_divide(
 ) -> u32
     ensures { λ r. ⌜ (r ≡ divideReturned (now (message .entry)) sender aid) × (now (operations .exit) ≡ divideOperations (now (message .entry)) sender aid (now (operations .entry))) ⌝ }
 {
-    let made = division_of(message, sender, aid);
+    let s = byte(sender as u64);
+    let a = aid_from(aid as u64);
+    let made = message::divide(message, s, a);
     let refusal = made.refusal;
     if refusal != 0 {
         return refusal as u32;
@@ -78,13 +79,13 @@ pub extern "C" fn trainer_operation(
 ) -> u32
     ensures { λ r. ⌜ (r ≡ divideReturned (now (message .entry)) sender aid) × (now (sequence .exit) ≡ operationSequence (now (message .entry)) sender aid index (now (sequence .entry))) × (now (offset .exit) ≡ operationOffset (now (message .entry)) sender aid index (now (offset .entry))) × (now (length .exit) ≡ operationLength (now (message .entry)) sender aid index (now (length .entry))) ⌝ }
 {
-    let made = division_of(message, sender, aid);
+    let s = byte(sender as u64);
+    let a = aid_from(aid as u64);
+    let made = message::divide(message, s, a);
     let refusal = made.refusal;
     if refusal != 0 {
         return refusal as u32;
     }
-    let s = sender_from(sender as u64);
-    let a = aid_from(aid as u64);
     *sequence = number_at(message, s, a, index);
     *offset = offset_at(message, s, a, index);
     *length = length_at(message, s, a, index);

@@ -1,15 +1,12 @@
 // An operation as numbers (Table 6, "Message sequence").
 use crate::layout::NO_SENDER;
-use crate::layout::aid_from;
-use crate::layout::sender_from;
-use message_rules::Division;
+use crossing::byte;
 use message_rules::Sequence;
 use message_rules::SequenceFound;
 ghost use mathlib.Core.Path.{_≡_};
 ghost use lib.ListN.{length};
 ghost use Rattle.message_rules.specs.Operation.{sequenceNumber};
-ghost use Rattle.message_rules.specs.Sender.{division, operationAt, sequenceFound, partFound, partOffset};
-ghost use Rattle.capi_message.specs.Layout.{senderFrom, aidFrom};
+ghost use Rattle.message_rules.specs.Sender.{operationAt, sequenceFound, partFound, partOffset};
 ghost use Rattle.capi_message.specs.Operation.{sequenceFrom, operationSender, numberFound};
 
 pub(crate) fn sequence_from(number: u32) -> Sequence
@@ -28,7 +25,7 @@ pub(crate) fn operation_sender(sequence: u32, sender: u32) -> u8
     ensures { λ r. ⌜ r ≡ operationSender sequence sender ⌝ }
 {
     if sequence <= 3 {
-        sender_from(sender as u64)
+        byte(sender as u64)
     } else {
         NO_SENDER
     }
@@ -43,13 +40,6 @@ fn sequence_number(sequence: Sequence) -> u32
         Sequence::Middle => 2,
         Sequence::Last => 3,
     }
-}
-
-// How many operations the message makes, for a sender and an AID that may be too large for their types.
-pub(crate) fn division_of(message: &[u8], sender: u32, aid: u32) -> Division
-    ensures { λ r. ⌜ r ≡ division (now (message .entry)) (senderFrom sender) (aidFrom aid) ⌝ }
-{
-    message::divide(message, sender_from(sender as u64), aid_from(aid as u64))
 }
 
 // The number of operation `k`'s sequence, 0 past the last.

@@ -13,9 +13,10 @@ use Rattle.tape_format.specs.declared.Record.the-variants as rec
 use Rattle.tape_format.specs.Record.{kindOf, fieldsOf}
 use Rattle.crossing.specs.Capped.{capped}
 use Rattle.crossing.proofs.CappedLaws.{caps}
+use Rattle.tape.specs.Numbers.{padded}
 use Rattle.capi_tape.specs.declared.entry.RecordFound.{RecordFound}
 use Rattle.capi_tape.specs.declared.entry.RecordFound.the-variants as found
-use Rattle.capi_tape.specs.Entry.{padded, recordNumbers, storeFrom, orderWith, orderFrom, answerFrom, registerFrom, loadedFrom, kindFrom, recordFrom, Fits, Back}
+use Rattle.capi_tape.specs.Entry.{recordNumbers, storeFrom, orderWith, orderFrom, answerFrom, registerFrom, loadedFrom, kindFrom, recordFrom, Fits, Back}
 
 byte : (n : ℕ) → n ≤ 255 → capped 255 n ≡ n
 byte = caps 255 .keeps

@@ -1,19 +1,38 @@
 -- What reading and writing a record through the C interface answer and leave, for each answer of the tape's own functions.
-use mathlib.Core.Path.{_≡_, refl}
+use mathlib.Core.Path.{_≡_, refl, ap, _∙_}
 use mathlib.Core.Bool.{true, false}
-use mathlib.Core.List.{List, _++_}
+use mathlib.Core.List.{List, [], _∷_, _++_}
 use Prim.Native.Nat.{ℕ, _≤_, _<_}
 use lib.Dec.{leb}
-use lib.ListN.{length, drop}
+use native.Mathlib.Omega.{arith}
+use lib.ListN.{length, getD, drop}
 use borrow.Author.Tests.{le-leb, lt-leb}
 use Rattle.tape_format.specs.declared.Record.{Record}
 use Rattle.tape_format.specs.declared.RecordRead.the-variants as read
 use Rattle.tape_format.specs.declared.Written.{Written}
 use Rattle.tape_format.specs.Record.{recordAt, recordTold, kindOf, fieldsOf}
 use Rattle.tape_format.specs.Write.{writtenOf, writtenRefusal, spaceAfter}
+use Rattle.tape.specs.Numbers.{padded}
 use Rattle.capi_tape.specs.declared.entry.RecordFound.{RecordFound}
 use Rattle.capi_tape.specs.declared.entry.RecordFound.the-variants as found
 use Rattle.capi_tape.specs.Entry.{recordNumbers, filled, readReturned, numbersLeft, nextLeft, writeReturned, spaceLeft, countOr, writtenLeft}
+
+seven : (l : List ℕ) → length l ≡ 7 → getD l 0 0 ∷ getD l 1 0 ∷ getD l 2 0 ∷ getD l 3 0 ∷ getD l 4 0 ∷ getD l 5 0 ∷ getD l 6 0 ∷ [] ≡ l
+seven (a ∷ b ∷ c ∷ d ∷ e ∷ f ∷ g ∷ []) h = refl
+seven (a ∷ b ∷ c ∷ d ∷ e ∷ f ∷ g ∷ x ∷ l) h = absurd (omega arith)
+seven (a ∷ b ∷ c ∷ d ∷ e ∷ f ∷ []) h = absurd (omega arith)
+seven (a ∷ b ∷ c ∷ d ∷ e ∷ []) h = absurd (omega arith)
+seven (a ∷ b ∷ c ∷ d ∷ []) h = absurd (omega arith)
+seven (a ∷ b ∷ c ∷ []) h = absurd (omega arith)
+seven (a ∷ b ∷ []) h = absurd (omega arith)
+seven (a ∷ []) h = absurd (omega arith)
+seven [] h = absurd (omega arith)
+
+-- the seven numbers of a record, put one by one
+pub numbers-put : (r : Record) (v s : List ℕ) → length v ≡ 7 → v ≡ padded (kindOf r ∷ fieldsOf r)
+    → (getD v 0 0 ∷ getD v 1 0 ∷ getD v 2 0 ∷ getD v 3 0 ∷ getD v 4 0 ∷ getD v 5 0 ∷ getD v 6 0 ∷ []) ++ drop 7 s ≡ recordNumbers r ++ drop 7 s
+unfolding recordNumbers
+numbers-put r v s h e = ap (λ (t : List ℕ). t ++ drop 7 s) (seven v h ∙ e)
 
 module _ (tape s : List ℕ) (at n : ℕ) where
   -- no room for the numbers

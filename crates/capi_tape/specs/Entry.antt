@@ -3,7 +3,7 @@ use Prim.Native.Nat.{ℕ, _≤_}
 use mathlib.Core.Path.{_≡_}
 use mathlib.Core.Bool.{cond}
 use mathlib.Core.List.{List, [], _∷_, _++_}
-use lib.ListN.{length, getD, take, drop, replicate}
+use lib.ListN.{length, getD, drop}
 use lib.Dec.{leb, eqb}
 use Rattle.order.specs.declared.CommandFound.{CommandFound}
 use Rattle.order.specs.declared.CommandFound.the-variants as command
@@ -15,6 +15,7 @@ use Rattle.tape_format.specs.declared.Written.{Written}
 use Rattle.tape_format.specs.declared.Written.the-variants as wrote
 use Rattle.tape_format.specs.Record.{recordAt, recordTold, kindOf, fieldsOf}
 use Rattle.tape_format.specs.Write.{writtenOf, writtenRefusal, spaceAfter}
+use Rattle.tape.specs.Numbers.{padded}
 use Rattle.capi_tape.specs.declared.entry.RecordFound.{RecordFound}
 use Rattle.capi_tape.specs.declared.entry.RecordFound.the-variants as found
 use Rattle.crossing.specs.Capped.{capped}
@@ -23,10 +24,7 @@ use Rattle.crossing.specs.Capped.{capped}
 abbrev pub recordSize : ℕ
 recordSize = 7
 
--- so many numbers, with 0 behind those that there are
-unfoldable pub padded : List ℕ → List ℕ
-padded ns = take recordSize (ns ++ replicate recordSize 0)
-
+-- with 0 behind them
 unfoldable pub recordNumbers : Record → List ℕ
 recordNumbers r = padded (kindOf r ∷ fieldsOf r)
 

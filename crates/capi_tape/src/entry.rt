@@ -5,15 +5,13 @@ use order::CommandFound;
 use order::FIELD_RANGE;
 use order::Order;
 use order::UNKNOWN_KIND;
-use order::command_number;
 use order::command_of;
-use order::flag_number;
 use tape_format::Record;
 ghost use mathlib.Core.Path.{_≡_};
 ghost use mathlib.Core.List.{[], _∷_, _++_};
 ghost use Prim.Native.Nat.{_≤_};
 ghost use lib.ListN.{length, drop};
-ghost use Rattle.capi_tape.specs.Entry.{recordSize, recordNumbers, storeFrom, orderFrom, answerFrom, registerFrom, loadedFrom, recordFrom};
+ghost use Rattle.capi_tape.specs.Entry.{recordSize, storeFrom, orderFrom, answerFrom, registerFrom, loadedFrom, recordFrom};
 
 // The record that seven numbers name, or the number of the refusal.
 pub(crate) enum RecordFound {
@@ -21,7 +19,8 @@ pub(crate) enum RecordFound {
     Refused(u8),
 }
 
-fn put_seven(out: &mut [u64], kind: u64, a: u64, b: u64, c: u64, d: u64, e: u64, f: u64)
+// Seven numbers, into the first places of the lent space.
+pub(crate) fn put_seven(out: &mut [u64], kind: u64, a: u64, b: u64, c: u64, d: u64, e: u64, f: u64)
     requires { ⌜ recordSize ≤ length (now out) ⌝ }
     ensures { λ _. ⌜ now (out .exit) ≡ (kind ∷ a ∷ b ∷ c ∷ d ∷ e ∷ f ∷ []) ++ drop recordSize (now (out .entry)) ⌝ }
 {
@@ -32,73 +31,6 @@ fn put_seven(out: &mut [u64], kind: u64, a: u64, b: u64, c: u64, d: u64, e: u64,
     out[4] = d;
     out[5] = e;
     out[6] = f;
-}
-
-fn put_order(out: &mut [u64], o: Order)
-    requires { ⌜ recordSize ≤ length (now out) ⌝ }
-    ensures { λ _. ⌜ now (out .exit) ≡ recordNumbers (Record.Order o) ++ drop recordSize (now (out .entry)) ⌝ }
-{
-    let command = o.command;
-    let number = command_number(command);
-    let retried = flag_number(o.retried);
-    put_seven(
-        out,
-        3,
-        o.unit as u64,
-        number as u64,
-        o.block as u64,
-        retried,
-        0,
-        0,
-    );
-}
-
-// A record's numbers, into the first places of the lent space.
-pub(crate) fn put_record(r: Record, out: &mut [u64])
-    requires { ⌜ recordSize ≤ length (now out) ⌝ }
-    ensures { λ _. ⌜ now (out .exit) ≡ recordNumbers r ++ drop recordSize (now (out .entry)) ⌝ }
-{
-    match r {
-        Record::Load(u, a) => put_seven(out, 0, u as u64, a as u64, 0, 0, 0, 0),
-        Record::Store(u, a, v) => put_seven(out, 1, u as u64, a as u64, v as u64, 0, 0, 0),
-        Record::Flush(u, b) => put_seven(out, 2, u as u64, b as u64, 0, 0, 0, 0),
-        Record::Order(o) => put_order(out, o),
-        Record::Answer {
-            from,
-            to,
-            aid,
-            code,
-        } => put_seven(
-            out,
-            4,
-            from as u64,
-            to as u64,
-            aid as u64,
-            code as u64,
-            0,
-            0,
-        ),
-        Record::Register {
-            from,
-            to,
-            aid,
-            write,
-            ra,
-            bct,
-        } => {
-            put_seven(
-                out,
-                5,
-                from as u64,
-                to as u64,
-                aid as u64,
-                flag_number(write),
-                ra as u64,
-                bct as u64,
-            )
-        }
-        Record::Loaded(u, v) => put_seven(out, 6, u as u64, v as u64, 0, 0, 0, 0),
-    }
 }
 
 fn store_from(unit: u64, address: u64, value: u64) -> RecordFound

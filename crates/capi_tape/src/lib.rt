@@ -3,7 +3,7 @@
 mod entry;
 
 use entry::RecordFound;
-use entry::put_record;
+use entry::put_seven;
 use entry::record_from;
 use order::NO_ROOM;
 use tape_format::RecordRead;
@@ -26,7 +26,9 @@ pub extern "C" fn trainer_read_record(
     }
     match tape::read_record(tape, place) {
         RecordRead::Record(r, after) => {
-            put_record(r, numbers);
+            let spelled = tape::numbers_of(r);
+            let v = spelled.values;
+            put_seven(numbers, v[0], v[1], v[2], v[3], v[4], v[5], v[6]);
             *next = after;
             0
         }

@@ -1,10 +1,10 @@
 -- What a drill prints for a tape, and what `drill` answers and leaves in the lent space (document 01, "Drill").
 use Prim.Native.Nat.{ℕ}
-use mathlib.Core.Bool.{cond}
+use mathlib.Core.Bool.{Bool, cond}
 use mathlib.Core.List.{List, _++_}
 use lib.Dec.{leb}
 use lib.ListN.{length, replicate}
-use Rattle.order.specs.Refusal.{accepted, noRoom}
+use Rattle.order.specs.Refusal.{accepted, noRoom, unreadable}
 use Rattle.coherence.specs.declared.Call.{Call}
 use Rattle.coherence.specs.declared.Answer.{Answer}
 use Rattle.coherence.specs.Bytes.{storeSize}
@@ -46,6 +46,11 @@ drillText tape =
     (lines (callsIn tape) (answersIn tape)
     ++ lastLine (readAll tape .ending) (length (callsIn tape)) (ordersGiven (answersIn tape)))
     (refusedLine noRoom tapeMost)
+
+-- what the program prints for its standard input, of which `tape` was read: `refused 18 at 0` where reading failed, whatever came before (document 02, T-12, has 18
+-- for what can't be read)
+unfoldable pub printed : Bool → List ℕ → List ℕ
+printed failed tape = cond failed (refusedLine unreadable 0) (drillText tape)
 
 -- the answer for a space of so many bytes: how many the text has; refusal 9 where it has no room
 unfoldable pub drilledIn : List ℕ → ℕ → Drilled

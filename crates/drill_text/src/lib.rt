@@ -4,7 +4,7 @@ ghost use Prim.Native.Nat.{_≤_};
 ghost use lib.ListN.{length};
 ghost use Rattle.order.specs.Refusal.{accepted};
 ghost use Rattle.text.specs.Space.{placed};
-ghost use Rattle.drill_text.specs.Drill.{drillText, drilledIn, textMost};
+ghost use Rattle.drill_text.specs.Drill.{drillText, printed, drilledIn, textMost};
 ghost use Rattle.drill_text.specs.Writing.{Puts};
 
 mod line;
@@ -13,6 +13,7 @@ mod run;
 use crate::line::put_refused;
 use machine::cold_start;
 use order::NO_ROOM;
+use order::UNREADABLE;
 use run::run_tape;
 
 // The most bytes of a tape, and a space that is long enough for the text of any tape.
@@ -26,10 +27,13 @@ pub struct Drilled {
     pub count: usize,
 }
 
-// The text of a tape put into `out`, if it has room. The answer is how many bytes it has, in any case.
-fn play(tape: &[u8], out: &mut [u8]) -> usize
-    ensures { λ r. ⌜ Puts (drillText (now (tape .entry))) (now (out .entry)) 0 (now (out .exit)) r × (r ≤ textMost) ⌝ }
+// The text of an input put into `out`, if it has room. The answer is how many bytes it has, in any case.
+fn play(failed: bool, tape: &[u8], out: &mut [u8]) -> usize
+    ensures { λ r. ⌜ Puts (printed failed (now (tape .entry))) (now (out .entry)) 0 (now (out .exit)) r × (r ≤ textMost) ⌝ }
 {
+    if failed {
+        return put_refused(out, 0, UNREADABLE, 0);
+    }
     if TAPE_MOST < tape.len() {
         return put_refused(out, 0, NO_ROOM, TAPE_MOST);
     }
@@ -40,21 +44,29 @@ fn play(tape: &[u8], out: &mut [u8]) -> usize
     run_tape(tape, directory, &mut memory, &mut cache, out)
 }
 
-// What a drill on `tape` prints, put at the start of `out`. A first run with no space to write counts the bytes.
-pub fn drill(tape: &[u8], out: &mut [u8]) -> Drilled
-    ensures { λ r. ⌜ (r ≡ drilledIn (drillText (now (tape .entry))) (length (now (out .entry)))) × (now (out .exit) ≡ placed (now (out .entry)) 0 (drillText (now (tape .entry)))) × (textMost ≤ length (now (out .entry)) → r .refusal ≡ accepted) ⌝ }
+// What the program prints, put at the start of `out`: `tape` was read from its input, and `failed` says that a read failed. Where the space might not
+// suffice, a first run with no space to write counts the bytes.
+pub fn drill_input(failed: bool, tape: &[u8], out: &mut [u8]) -> Drilled
+    ensures { λ r. ⌜ (r ≡ drilledIn (printed failed (now (tape .entry))) (length (now (out .entry)))) × (now (out .exit) ≡ placed (now (out .entry)) 0 (printed failed (now (tape .entry)))) × (textMost ≤ length (now (out .entry)) → r .refusal ≡ accepted) ⌝ }
 {
     if TEXT_MOST <= out.len() {
-        let count = play(tape, out);
+        let count = play(failed, tape, out);
         return Drilled { refusal: 0, count };
     }
-    let size = play(tape, &mut out[0..0]);
+    let size = play(failed, tape, &mut out[0..0]);
     if out.len() < size {
         return Drilled {
             refusal: NO_ROOM,
             count: 0,
         };
     }
-    let count = play(tape, out);
+    let count = play(failed, tape, out);
     Drilled { refusal: 0, count }
+}
+
+// What a drill on `tape` prints, put at the start of `out`.
+pub fn drill(tape: &[u8], out: &mut [u8]) -> Drilled
+    ensures { λ r. ⌜ (r ≡ drilledIn (drillText (now (tape .entry))) (length (now (out .entry)))) × (now (out .exit) ≡ placed (now (out .entry)) 0 (drillText (now (tape .entry)))) × (textMost ≤ length (now (out .entry)) → r .refusal ≡ accepted) ⌝ }
+{
+    drill_input(false, tape, out)
 }

@@ -16,6 +16,10 @@ use Rattle.handler.specs.Handler.{lastUnit, ownerOf, requests, unitGrant
 use Rattle.numeric.specs.Bits.{contains}
 use Rattle.handler.specs.Waiting.{Input, Call, answer, calls, each}
 
+-- "Fresh state: both last units 7, no lock"
+unfoldable pub FreshState : Type 0
+FreshState = ((c : Class) → lastUnit c initial ≡ 7) × (ownerOf (initial .lock) ≡ none)
+
 -- a refused call "gives its number, .. no grant, .. and leaves .. handler state": the whole answer. `accepted-exactly` says which calls are refused
 unfoldable pub RefusedKeeps : Type 0
 RefusedKeeps = (s : State) (high low : ℕ) (lck : Bool) → arbitration s high low lck .refusal ≢ 0 →

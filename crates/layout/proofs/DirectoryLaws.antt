@@ -14,26 +14,26 @@ use borrow.Author.Tests.{eqb-true, eqb-false, leb-true, le-leb, eq-eqb, ne-eqb}
 use Rattle.coherence.specs.declared.Slot.the-variants.{Invalid, Shared, Modified}
 use Rattle.coherence.specs.declared.Entry.{Entry}
 use Rattle.coherence.specs.declared.Directory.{Directory}
-use Rattle.coherence.specs.Slots.{slotAt, blockOf}
+use Rattle.coherence.specs.Slots.{stateNumber, slotAt, blockOf}
 use Rattle.crossing.proofs.Spaces.{put-behind}
-use Rattle.layout.specs.Directory.{stateOf, slotBytes, Paired, blockSpelled, slotSpelled, slotsSpelled}
+use Rattle.layout.specs.Directory.{slotBytes, Paired, blockSpelled, slotSpelled, slotsSpelled}
 
 pub length-slotBytes : (n : ℕ) (d : Directory) → length (slotBytes n d) ≡ 2 * n
 unfolding slotBytes
 length-slotBytes zero d = refl
 length-slotBytes (suc n) d =
-    length-append (slotBytes n d) (stateOf (slotAt d n) ∷ blockOf (slotAt d n) ∷ [])
+    length-append (slotBytes n d) (stateNumber (slotAt d n) ∷ blockOf (slotAt d n) ∷ [])
     ∙ ap (λ (k : ℕ). k + 2) (length-slotBytes n d)
     ∙ (omega arith)
 
 pub put-slot : (d : Directory) (o : List ℕ) (n : ℕ) → 2 * n + 2 ≤ length o
-    → set (set (slotBytes n d ++ drop (2 * n) o) (2 * n) (stateOf (slotAt d n))) (2 * n + 1) (blockOf (slotAt d n))
+    → set (set (slotBytes n d ++ drop (2 * n) o) (2 * n) (stateNumber (slotAt d n))) (2 * n + 1) (blockOf (slotAt d n))
     ≡ slotBytes (n + 1) d ++ drop (2 * (n + 1)) o
 unfolding slotBytes
 put-slot d o n h =
     let next : 2 * n + 2 ≡ 2 * (n + 1) = omega arith in
     rw (add-one (2 * n))
-    (put-behind (slotBytes n d) o (stateOf (slotAt d n) ∷ blockOf (slotAt d n) ∷ []) (2 * n) (length-slotBytes n d) h
+    (put-behind (slotBytes n d) o (stateNumber (slotAt d n) ∷ blockOf (slotAt d n) ∷ []) (2 * n) (length-slotBytes n d) h
     ∙ ap (λ (k : ℕ). slotBytes (suc n) d ++ drop k o) next
     ∙ ap (λ (k : ℕ). slotBytes k d ++ drop (2 * (n + 1)) o) (sym (add-one n)))
 

@@ -2,15 +2,15 @@
 use mathlib.Core.Path.{refl}
 use Rattle.order.specs.Command.{commandNumber}
 use Rattle.order.specs.Flag.{flag}
-use Rattle.coherence.specs.Slots.{slotAt, setSlot, blockOf, coldDirectory}
+use Rattle.coherence.specs.Slots.{stateNumber, slotAt, setSlot, blockOf, coldDirectory}
 use Rattle.coherence.specs.Calls.{packed}
-use Rattle.layout.specs.Directory.{stateOf, slotBytes, encoded, directoryPut, slotSpelled}
+use Rattle.layout.specs.Directory.{slotBytes, encoded, directoryPut, slotSpelled}
 use Rattle.layout.specs.Answer.{orderNumbers, ordersNumbers, answerNumbers, answerPut}
 use Rattle.layout.specs.Examples.{mixed, twoOrders, Examples}
 
 pub examples : Examples
 unfolding
-    commandNumber flag slotAt setSlot blockOf coldDirectory packed stateOf slotBytes encoded directoryPut slotSpelled
+    commandNumber flag slotAt setSlot blockOf coldDirectory packed stateNumber slotBytes encoded directoryPut slotSpelled
     orderNumbers ordersNumbers answerNumbers answerPut mixed twoOrders
 examples =
     record {

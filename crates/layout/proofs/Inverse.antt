@@ -14,9 +14,9 @@ use Rattle.coherence.specs.declared.Slot.{Slot}
 use Rattle.coherence.specs.declared.Slot.the-variants.{Invalid, Shared, Modified}
 use Rattle.coherence.specs.declared.Entry.{Entry}
 use Rattle.coherence.specs.declared.Directory.{Directory}
-use Rattle.coherence.specs.Slots.{emptyEntry, slotAt, blockOf, fits, slotRule, sound}
+use Rattle.coherence.specs.Slots.{stateNumber, emptyEntry, slotAt, blockOf, fits, slotRule, sound}
 use Rattle.coherence.proofs.Below.{below-at}
-use Rattle.layout.specs.Directory.{stateOf, slotBytes, encoded, noSlot, slotSpelled, slotsSpelled, decoded, Inverse}
+use Rattle.layout.specs.Directory.{slotBytes, encoded, noSlot, slotSpelled, slotsSpelled, decoded, Inverse}
 use Rattle.layout.proofs.DirectoryLaws.{length-slotBytes}
 
 -- an element of a list that was made by adding at the end
@@ -26,18 +26,18 @@ getD-last xs ys i k e h = ap (λ (j : ℕ). getD (xs ++ ys) j e) h ∙ getD-appe
 -- ---- a directory's bytes
 
 byte-of : (d : Directory) (n i : ℕ) → i < n
-    → (getD (slotBytes n d) (2 * i) 0 ≡ stateOf (slotAt d i)) × (getD (slotBytes n d) (2 * i + 1) 0 ≡ blockOf (slotAt d i))
+    → (getD (slotBytes n d) (2 * i) 0 ≡ stateNumber (slotAt d i)) × (getD (slotBytes n d) (2 * i + 1) 0 ≡ blockOf (slotAt d i))
 unfolding slotBytes
 byte-of d zero i h = absurd (not-suc-le-zero h)
 byte-of d (suc n) i h =
     let xs : List ℕ = slotBytes n d in
-    let ys : List ℕ = stateOf (slotAt d n) ∷ blockOf (slotAt d n) ∷ [] in
+    let ys : List ℕ = stateNumber (slotAt d n) ∷ blockOf (slotAt d n) ∷ [] in
     let l : length xs ≡ 2 * n = length-slotBytes n d in
     ⊎-elim
     (λ (q : i ≡ n).
     let a : 2 * i ≡ length xs + 0 = omega arith in
     let b : 2 * i + 1 ≡ length xs + 1 = omega arith in (
-      getD-last xs ys (2 * i) 0 0 a ∙ ap (λ (j : ℕ). stateOf (slotAt d j)) (sym q),
+      getD-last xs ys (2 * i) 0 0 a ∙ ap (λ (j : ℕ). stateNumber (slotAt d j)) (sym q),
       getD-last xs ys (2 * i + 1) 1 0 b ∙ ap (λ (j : ℕ). blockOf (slotAt d j)) (sym q),
     ))
     (λ (q : i < n).
@@ -46,8 +46,8 @@ byte-of d (suc n) i h =
     (List·getD-append xs ys 0 (2 * i) a ∙ byte-of d n i q .0, List·getD-append xs ys 0 (2 * i + 1) b ∙ byte-of d n i q .1))
     (eq-or-lt-of-le (le-of-suc-le-suc h))
 
-slot-back : (x : Slot) → slotSpelled (stateOf x) (blockOf x) ≡ x
-unfolding slotSpelled stateOf blockOf
+slot-back : (x : Slot) → slotSpelled (stateNumber x) (blockOf x) ≡ x
+unfolding slotSpelled stateNumber blockOf
 slot-back Invalid = refl
 slot-back (Shared b) = refl
 slot-back (Modified b) = refl
@@ -101,13 +101,13 @@ slot-of l (suc n) i h =
 
 -- a pair of bytes that is taken for a slot that its rule allows is that slot's
 pair-forth : (d : Directory) (n s b : ℕ) → slotRule d n (slotSpelled s b) ≡ true
-    → (stateOf (slotSpelled s b) ≡ s) × (blockOf (slotSpelled s b) ≡ b)
-unfolding slotSpelled slotRule fits stateOf blockOf
+    → (stateNumber (slotSpelled s b) ≡ s) × (blockOf (slotSpelled s b) ≡ b)
+unfolding slotSpelled slotRule fits stateNumber blockOf
 pair-forth d n s b = go (eqb s 0) (eqb s 1) (eqb s 2) (eqb b 0) refl refl refl refl
   where
     go : (p q r z : Bool) → eqb s 0 ≡ p → eqb s 1 ≡ q → eqb s 2 ≡ r → eqb b 0 ≡ z
         → let x : Slot = cond p (cond z Invalid noSlot) (cond q (Shared b) (cond r (Modified b) noSlot)) in
-        slotRule d n x ≡ true → (stateOf x ≡ s) × (blockOf x ≡ b)
+        slotRule d n x ≡ true → (stateNumber x ≡ s) × (blockOf x ≡ b)
     go true q r true e f g h t = (sym (eqb-true s 0 e), sym (eqb-true b 0 h))
     go true q r false e f g h t = absurd (false≢true t)
     go false true r z e f g h t = (sym (eqb-true s 1 f), refl)
@@ -130,7 +130,7 @@ bytes-forth l zero e t h = refl
 bytes-forth l (suc n) e t h =
     let i : n < 64 = omega arith in
     let s : slotAt (decoded l) n ≡ slotSpelled (getD l (2 * n) 0) (getD l (2 * n + 1) 0) = slot-at l n e i in
-    let p : (stateOf (slotAt (decoded l) n) ≡ getD l (2 * n) 0) × (blockOf (slotAt (decoded l) n) ≡ getD l (2 * n + 1) 0) =
+    let p : (stateNumber (slotAt (decoded l) n) ≡ getD l (2 * n) 0) × (blockOf (slotAt (decoded l) n) ≡ getD l (2 * n + 1) 0) =
     rw s (pair-forth (decoded l) n (getD l (2 * n) 0) (getD l (2 * n + 1) 0) (rw s at (rule-at (decoded l) n t i))) in
     let k : 2 * suc n ≡ suc (suc (2 * n)) = omega arith in
     let k₁ : suc (2 * n) ≡ 2 * n + 1 = omega arith in

@@ -9,22 +9,16 @@ use Rattle.coherence.specs.declared.Slot.{Slot}
 use Rattle.coherence.specs.declared.Slot.the-variants.{Invalid, Shared, Modified}
 use Rattle.coherence.specs.declared.Entry.{Entry}
 use Rattle.coherence.specs.declared.Directory.{Directory}
-use Rattle.coherence.specs.Slots.{blockOf, slotAt, sound}
+use Rattle.coherence.specs.Slots.{stateNumber, blockOf, slotAt, sound}
 
 -- the bytes of a directory
 abbrev pub directorySize : ℕ
 directorySize = 128
 
--- 0 invalid (I), 1 shared and unmodified (SU), 2 exclusive and modified (EM)
-unfoldable pub stateOf : Slot → ℕ
-stateOf Invalid = 0
-stateOf (Shared b) = 1
-stateOf (Modified b) = 2
-
 -- the bytes of the first n slots
 unfoldable pub slotBytes : ℕ → Directory → List ℕ
 slotBytes zero d = []
-slotBytes (suc n) d = slotBytes n d ++ (stateOf (slotAt d n) ∷ blockOf (slotAt d n) ∷ [])
+slotBytes (suc n) d = slotBytes n d ++ (stateNumber (slotAt d n) ∷ blockOf (slotAt d n) ∷ [])
 
 unfoldable pub encoded : Directory → List ℕ
 encoded d = slotBytes 64 d

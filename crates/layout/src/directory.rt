@@ -5,14 +5,14 @@ use coherence::Slot;
 ghost use mathlib.Core.Path.{_≡_};
 ghost use Prim.Native.Nat.{_/_, _%_};
 ghost use lib.ListN.{length};
-ghost use Rattle.coherence.specs.Slots.{blockOf};
-ghost use Rattle.layout.specs.Directory.{stateOf, Paired, blockSpelled, slotSpelled, decoded, directoryPut};
+ghost use Rattle.coherence.specs.Slots.{stateNumber, blockOf};
+ghost use Rattle.layout.specs.Directory.{Paired, blockSpelled, slotSpelled, decoded, directoryPut};
 
 // A block that no slot may have.
 const NO_BLOCK: u8 = 255;
 
 fn state_of(s: Slot) -> u8
-    ensures { λ r. ⌜ r ≡ stateOf s ⌝ }
+    ensures { λ r. ⌜ r ≡ stateNumber s ⌝ }
 {
     match s {
         Slot::Invalid => 0,

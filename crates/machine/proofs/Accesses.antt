@@ -17,13 +17,14 @@ use Rattle.coherence.specs.Bytes.{blockAt, putBlock, wordAt, putWord}
 use Rattle.coherence.specs.Refusal.{isAddress}
 use Rattle.coherence.specs.Slots.{place, slotAt, setSlot, blockOf, holds, modified, ownerOf}
 use Rattle.coherence.specs.Access.{Run, ready, give, mark, writeBack, copyback, emptied, empty, yield, ask, fill, fetch, own, write, cachePlace, load, store, flush}
-use Rattle.coherence.proofs.SlotLaws.{place-lt, holds-invalid}
+use Rattle.coherence.proofs.SlotLaws.{size, place-lt, holds-invalid}
 use Rattle.slots.specs.Directory.{claimedAtOnce, yieldedDirectory, fetchedDirectory}
 use Rattle.orders.specs.Orders.{order, evictionOrders, askOrders, fetchOrders}
 use Rattle.blocks.specs.Moves.{copied, wordIn, wordPut, evictedMemory, yieldedMemory, fetchedMemory, fetchedCache}
 use Rattle.slots.proofs.Sets.{set-over, set-past, owner-past}
 use Rattle.slots.proofs.Claims.{claim-is}
 use Rattle.blocks.proofs.StoreLaws.{copied-is, word-is, put-is, length-evicted, length-fetched}
+use Rattle.machine.proofs.ClaimLaws.{claim-fetched}
 use Rattle.machine.proofs.Refusals.{Sized, Known, address-of}
 
 -- a machine by its parts
@@ -180,13 +181,13 @@ store-shared u a v d m c q g h =
     (ap (write u a v) (claim-is u (a / 32) (give u Invalidate (a / 32) false (ready d m c)))
     ∙ ap (λ (c′ : List ℕ). machine (claimedAtOnce u (a / 32) d) m c′ (order u Invalidate (a / 32) false ∷ [])) (stored-in u a v d m c c q refl))
 
-pub store-missed : (u a v : ℕ) (d : Directory) (m c : List ℕ) → Known d m c u (isAddress a) → modified (slotAt d (place u (a / 32))) (a / 32) ≡ false
+pub store-missed : (u a v : ℕ) (d : Directory) (m c : List ℕ) → Known d m c u (isAddress a) → size d ≡ 64 → modified (slotAt d (place u (a / 32))) (a / 32) ≡ false
     → holds (slotAt d (place u (a / 32))) (a / 32) ≡ false
     → let b = a / 32 in let n = place u b in let x = slotAt d n in let o = ownerOf d b in
     store u a v (ready d m c)
-    ≡ machine (claimedAtOnce u b (fetchedDirectory n b o d)) (fetchedMemory n b x o m c) (wordPut (fetchedCache n b x o m c) (cachePlace u a) v) (fetchOrders u ModifiedRead b x o)
+    ≡ machine (claimedAtOnce u b d) (fetchedMemory n b x o m c) (wordPut (fetchedCache n b x o m c) (cachePlace u a) v) (fetchOrders u ModifiedRead b x o)
 unfolding store own write ready
-store-missed u a v d m c q g h =
+store-missed u a v d m c q z g h =
     let b : ℕ = a / 32 in
     let n : ℕ = place u b in
     let x : Slot = slotAt d n in
@@ -195,7 +196,9 @@ store-missed u a v d m c q g h =
     rw (g, h)
     (ap (write u a v) (claim-is u b (fetch u ModifiedRead b (ready d m c)) ∙ ap (λ (w : Run). machine (claimedAtOnce u b (w .directory)) (w .memory) (w .cache) (w .orders)) (fetch-is u ModifiedRead b d m c (isAddress a) q (block-lt a (q .target)) h))
     ∙ ap (λ (c′ : List ℕ). machine (claimedAtOnce u b (fetchedDirectory n b o d)) (fetchedMemory n b x o m c) c′ (fetchOrders u ModifiedRead b x o))
-    (stored-in u a v d m c c₁ q (length-fetched n b x o m c .1)))
+    (stored-in u a v d m c c₁ q (length-fetched n b x o m c .1))
+    ∙ ap (λ (e : Directory). machine e (fetchedMemory n b x o m c) (wordPut c₁ (cachePlace u a) v) (fetchOrders u ModifiedRead b x o))
+    (claim-fetched u b d (q .unit) z))
 
 -- ---- flushes
 pub flush-held : (u b : ℕ) (d : Directory) (m c : List ℕ) (good : Bool) → Known d m c u good → holds (slotAt d (place u b)) b ≡ true

@@ -1,4 +1,5 @@
 -- Laws that several functions' proofs share.
 mod Refusals
+mod ClaimLaws
 mod Accesses
 mod Calls

@@ -116,9 +116,8 @@ pub fn store(
     if has_modified(slot, block) {
         put_word(cache, at, value);
         let orders = no_orders();
-        return accepted(0, orders, directory);
-    }
-    if holds_block(slot, block) {
+        accepted(0, orders, directory)
+    } else if holds_block(slot, block) {
         put_word(cache, at, value);
         let orders = one_order(unit, Command::Invalidate, block);
         let left = claimed(directory, unit, block);
@@ -128,7 +127,7 @@ pub fn store(
         fetch_bytes(slot, holder, memory, cache, n, block);
         put_word(cache, at, value);
         let orders = fetch_orders(slot, holder, unit, Command::ModifiedRead, block);
-        let left = claimed(fetched(directory, n, holder, block), unit, block);
+        let left = claimed(directory, unit, block);
         accepted(0, orders, left)
     }
 }

@@ -11,87 +11,87 @@ use crate::store::show_changed;
 use message_rules::Receiver;
 use message_rules::Sequence;
 
-// A row for each operation: the receiver (0 idle, 1 pending) with its sender, AID and count; the store's size; the sequence (0 single, 1 first,
-// 2 middle, 3 last), sender, AID and length of the operation.
-const OPERATIONS: [[u16; 9]; 58] = [
+// A number for each operation, by its digits: the receiver (0 idle, 1 pending) with its sender, AID and count; the store's size (5 to 7: 4,095 to
+// 4,097 bytes); the sequence (0 single, 1 first, 2 middle, 3 last), sender, AID and length of the operation.
+const OPERATIONS: [u64; 58] = [
     // "First and Single start only from idle, at byte 0"; "Each operation carries 1 to 256 bytes"; "a sender above 7, an AID above 255"
-    [0, 0, 0, 0, 4096, 0, 7, 255, 256],
-    [0, 0, 0, 0, 4096, 0, 0, 0, 1],
-    [0, 0, 0, 0, 4096, 1, 7, 255, 256],
-    [0, 0, 0, 0, 4096, 1, 0, 0, 1],
+    0_0_000_0000_6_0_7_255_256,
+    0_0_000_0000_6_0_0_000_001,
+    0_0_000_0000_6_1_7_255_256,
+    0_0_000_0000_6_1_0_000_001,
     // "Middle and Last need pending and go on at its count"; "a count outside 1 to 4,096"; "a whole message is at most 4,096"
-    [1, 0, 0, 1, 4096, 2, 0, 0, 1],
-    [1, 0, 0, 1, 4096, 3, 0, 0, 256],
-    [1, 7, 255, 3840, 4096, 2, 7, 255, 256],
-    [1, 7, 255, 3840, 4096, 3, 7, 255, 256],
-    [1, 7, 255, 4095, 4096, 2, 7, 255, 1],
-    [1, 7, 255, 4095, 4096, 3, 7, 255, 1],
+    1_0_000_0001_6_2_0_000_001,
+    1_0_000_0001_6_3_0_000_256,
+    1_7_255_3840_6_2_7_255_256,
+    1_7_255_3840_6_3_7_255_256,
+    1_7_255_4095_6_2_7_255_001,
+    1_7_255_4095_6_3_7_255_001,
     // 1 alone: "kept in a lent store of that size"
-    [0, 0, 0, 0, 4095, 0, 7, 255, 1],
-    [1, 7, 255, 1, 4097, 3, 7, 255, 1],
+    0_0_000_0000_5_0_7_255_001,
+    1_7_255_0001_7_3_7_255_001,
     // 10 alone, which only a count of 0 is: to a pending sender above 7 or AID above 255 an operation with the same is 8 too, and one with
     // another 11; a count above 4,096 is 9 too; and First and Single are 12.
-    [1, 7, 255, 0, 4096, 2, 7, 255, 1],
+    1_7_255_0000_6_2_7_255_001,
     // 8 alone: "length, or an operation's sender above 7 or AID above 255"
-    [0, 0, 0, 0, 4096, 0, 7, 255, 0],
-    [0, 0, 0, 0, 4096, 1, 7, 255, 257],
-    [0, 0, 0, 0, 4096, 0, 8, 255, 1],
-    [0, 0, 0, 0, 4096, 1, 7, 256, 1],
-    [1, 7, 255, 1, 4096, 2, 7, 255, 0],
-    [1, 7, 255, 1, 4096, 3, 7, 255, 257],
+    0_0_000_0000_6_0_7_255_000,
+    0_0_000_0000_6_1_7_255_257,
+    0_0_000_0000_6_0_8_255_001,
+    0_0_000_0000_6_1_7_256_001,
+    1_7_255_0001_6_2_7_255_000,
+    1_7_255_0001_6_3_7_255_257,
     // 12 alone: "out of turn"
-    [1, 7, 255, 1, 4096, 1, 7, 255, 1],
-    [1, 7, 255, 1, 4096, 0, 7, 255, 1],
-    [0, 0, 0, 0, 4096, 2, 7, 255, 1],
-    [0, 0, 0, 0, 4096, 3, 7, 255, 1],
+    1_7_255_0001_6_1_7_255_001,
+    1_7_255_0001_6_0_7_255_001,
+    0_0_000_0000_6_2_7_255_001,
+    0_0_000_0000_6_3_7_255_001,
     // 11 alone: "other sender or AID"
-    [1, 7, 255, 1, 4096, 2, 6, 255, 1],
-    [1, 7, 255, 1, 4096, 3, 7, 254, 1],
+    1_7_255_0001_6_2_6_255_001,
+    1_7_255_0001_6_3_7_254_001,
     // 9 alone: "over 4,096"
-    [1, 7, 255, 4096, 4096, 2, 7, 255, 1],
-    [1, 7, 255, 3841, 4096, 3, 7, 255, 256],
+    1_7_255_4096_6_2_7_255_001,
+    1_7_255_3841_6_3_7_255_256,
     // 1 before 10, 8, 12, 11 and 9
-    [1, 7, 255, 0, 4095, 2, 7, 255, 1],
-    [0, 0, 0, 0, 4097, 0, 7, 255, 257],
-    [1, 7, 255, 1, 4095, 1, 7, 255, 1],
-    [1, 7, 255, 1, 4095, 2, 6, 255, 1],
-    [1, 7, 255, 4096, 4097, 3, 7, 255, 1],
+    1_7_255_0000_5_2_7_255_001,
+    0_0_000_0000_7_0_7_255_257,
+    1_7_255_0001_5_1_7_255_001,
+    1_7_255_0001_5_2_6_255_001,
+    1_7_255_4096_7_3_7_255_001,
     // 10 before 8: a sender above 7, an AID above 255, and a count of 0 with an empty operation
-    [1, 8, 255, 1, 4096, 2, 8, 255, 1],
-    [1, 7, 256, 1, 4096, 3, 7, 256, 1],
-    [1, 7, 255, 0, 4096, 2, 7, 255, 0],
+    1_8_255_0001_6_2_8_255_001,
+    1_7_256_0001_6_3_7_256_001,
+    1_7_255_0000_6_2_7_255_000,
     // 10 before 12
-    [1, 7, 255, 0, 4096, 1, 7, 255, 1],
+    1_7_255_0000_6_1_7_255_001,
     // 10 before 11: a sender above 7, an AID above 255, and a count of 0
-    [1, 8, 255, 1, 4096, 2, 7, 255, 1],
-    [1, 7, 256, 1, 4096, 3, 7, 255, 1],
-    [1, 7, 255, 0, 4096, 2, 6, 255, 1],
+    1_8_255_0001_6_2_7_255_001,
+    1_7_256_0001_6_3_7_255_001,
+    1_7_255_0000_6_2_6_255_001,
     // 10 before 9
-    [1, 7, 255, 4097, 4096, 2, 7, 255, 1],
+    1_7_255_4097_6_2_7_255_001,
     // 8 before 12
-    [0, 0, 0, 0, 4096, 2, 7, 255, 0],
-    [1, 7, 255, 1, 4096, 0, 7, 255, 257],
+    0_0_000_0000_6_2_7_255_000,
+    1_7_255_0001_6_0_7_255_257,
     // 8 before 11: a sender above 7 and an AID above 255 are always other ones
-    [1, 7, 255, 1, 4096, 2, 8, 255, 1],
-    [1, 7, 255, 1, 4096, 3, 7, 256, 1],
-    [1, 7, 255, 1, 4096, 2, 6, 255, 0],
+    1_7_255_0001_6_2_8_255_001,
+    1_7_255_0001_6_3_7_256_001,
+    1_7_255_0001_6_2_6_255_000,
     // 8 before 9
-    [1, 7, 255, 3840, 4096, 2, 7, 255, 257],
+    1_7_255_3840_6_2_7_255_257,
     // 12 before 11 and 9. First and Single have nothing to match and start at byte 0: only 12 speaks of them, whatever is pending.
-    [1, 7, 255, 1, 4096, 1, 6, 255, 1],
-    [1, 7, 255, 1, 4096, 0, 7, 254, 1],
-    [1, 7, 255, 4096, 4096, 1, 7, 255, 1],
-    [1, 7, 255, 3841, 4096, 0, 7, 255, 256],
+    1_7_255_0001_6_1_6_255_001,
+    1_7_255_0001_6_0_7_254_001,
+    1_7_255_4096_6_1_7_255_001,
+    1_7_255_3841_6_0_7_255_256,
     // 11 before 9
-    [1, 7, 255, 3841, 4096, 3, 7, 254, 256],
+    1_7_255_3841_6_3_7_254_256,
     // all six at once; then without the first of them, and so on
-    [1, 8, 255, 4097, 4095, 1, 7, 255, 257],
-    [1, 8, 255, 4097, 4096, 1, 7, 255, 257],
-    [1, 6, 255, 4096, 4096, 1, 7, 255, 257],
-    [1, 6, 255, 4096, 4096, 1, 7, 255, 256],
-    [1, 6, 255, 4096, 4096, 2, 7, 255, 256],
-    [1, 7, 255, 4096, 4096, 2, 7, 255, 256],
-    [1, 7, 255, 3840, 4096, 2, 7, 255, 256],
+    1_8_255_4097_5_1_7_255_257,
+    1_8_255_4097_6_1_7_255_257,
+    1_6_255_4096_6_1_7_255_257,
+    1_6_255_4096_6_1_7_255_256,
+    1_6_255_4096_6_2_7_255_256,
+    1_7_255_4096_6_2_7_255_256,
+    1_7_255_3840_6_2_7_255_256,
 ];
 
 // One operation: what it is, then the answer. Gives back the receiver for the next.
@@ -110,19 +110,19 @@ pub(crate) fn operation(
     receipt.receiver
 }
 
-fn receiver_of(values: [u16; 9]) -> Receiver {
-    if values[0] == 0 {
+fn receiver_of(digits: u64) -> Receiver {
+    if digits / 100000000 == 0 {
         Receiver::Idle
     } else {
         Receiver::Pending {
-            sender: (values[1] % 256) as u8,
-            aid: values[2],
-            count: values[3] as usize,
+            sender: (digits / 10000000 % 10) as u8,
+            aid: (digits / 10000 % 1000) as u16,
+            count: (digits % 10000) as usize,
         }
     }
 }
 
-fn sequence_of(number: u16) -> Sequence {
+fn sequence_of(number: u64) -> Sequence {
     match number {
         0 => Sequence::Single,
         1 => Sequence::First,
@@ -131,33 +131,33 @@ fn sequence_of(number: u16) -> Sequence {
     }
 }
 
-fn run(values: [u16; 9], store: &mut [u8], bytes: &[u8]) {
-    let receiver = receiver_of(values);
+fn run(digits: u64, store: &mut [u8], bytes: &[u8]) {
+    let receiver = receiver_of(digits / 1000000000);
     word(b"receiver");
     state(receiver);
     number(b" store ", store.len() as u64);
-    let sequence = sequence_of(values[5]);
+    let sequence = sequence_of(digits / 10000000 % 10);
     operation(
         receiver,
         store,
         sequence,
-        (values[6] % 256) as u8,
-        values[7],
+        (digits / 1000000 % 10) as u8,
+        (digits / 1000 % 1000) as u16,
         bytes,
     );
     show_changed(store);
     word(b"\n");
 }
 
-fn row(values: [u16; 9]) {
+fn row(digits: u64) {
     let mut bytes = [0u8; 257];
     fill(&mut bytes);
     let mut store = [OTHER; 4097];
-    let size = values[4] as usize;
-    let length = values[8] as usize;
+    let size = 4090 + (digits / 100000000 % 10) as usize;
+    let length = (digits % 1000) as usize;
     if size <= 4097 {
         if length <= 257 {
-            run(values, &mut store[0..size], &bytes[0..length]);
+            run(digits, &mut store[0..size], &bytes[0..length]);
         }
     }
 }

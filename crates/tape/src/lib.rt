@@ -4,4 +4,6 @@ mod record;
 mod write;
 
 pub use record::read_record;
+pub use write::Numbers;
+pub use write::numbers_of;
 pub use write::write_record;

@@ -21,8 +21,8 @@ pub struct Numbers {
     pub values: [u64; 7],
 }
 
-// The numbers of a record: its kind and its fields.
-fn numbers_of(item: Record) -> Numbers
+// The numbers of a record: its kind and its fields, and 0 behind them.
+pub fn numbers_of(item: Record) -> Numbers
     ensures { λ r. ⌜ Spells (kindOf item ∷ fieldsOf item) (r .count) (r .values) ⌝ }
 {
     match item {

@@ -1,9 +1,9 @@
 -- Records in their bytes, both ways: each kind with fields that differ from one another, so that none can stand for another; an order with each command, each
--- flag as 0 and as 1. Then one refusal of each sort, with its place.
+-- flag as 0 and as 1. Then each field at its limit and one above it, and the other refusals, with their places.
 use Prim.Native.Nat.{ℕ}
 use mathlib.Core.Path.{_≡_}
 use mathlib.Core.Bool.{Bool, true, false}
-use mathlib.Core.List.{List, [], _∷_}
+use mathlib.Core.List.{List, [], _∷_, map}
 use lib.ListN.{length, replicate}
 use Rattle.order.specs.declared.Command.{Command}
 use Rattle.order.specs.declared.Command.the-variants.{Read, ModifiedRead, Invalidate, Copyback}
@@ -45,15 +45,62 @@ pub record Examples : Type 0 where
   pub kind5 : Spelled (0x05 ∷ 0x07 ∷ 0x06 ∷ 0x09 ∷ 0x01 ∷ 0xAC ∷ 0x02 ∷ 0x04 ∷ []) (rec.Register 7 6 9 true 300 4)
   pub registerRead : Spelled (0x05 ∷ 0x01 ∷ 0x03 ∷ 0x09 ∷ 0x00 ∷ 0xAC ∷ 0x02 ∷ 0x04 ∷ []) (rec.Register 1 3 9 false 300 4)
   pub kind6 : Spelled (0x06 ∷ 0x03 ∷ 0xAC ∷ 0x02 ∷ []) (rec.Loaded 3 300)
-  -- "the place where the refused number starts": kind 7; a unit of 4; command 4; the spelling of an address; a missing value
+  -- each field at its limit
+  pub limits :
+      map (λ bytes. toldOf bytes .refusal)
+      ((0x00 ∷ 0x03 ∷ 0xFC ∷ 0x0F ∷ [])
+      ∷ (0x01 ∷ 0x03 ∷ 0xFC ∷ 0x0F ∷ 0xFF ∷ 0xFF ∷ 0xFF ∷ 0xFF ∷ 0x0F ∷ [])
+      ∷ (0x02 ∷ 0x03 ∷ 0x3F ∷ [])
+      ∷ (0x03 ∷ 0x03 ∷ 0x01 ∷ 0x3F ∷ 0x01 ∷ [])
+      ∷ (0x03 ∷ 0x03 ∷ 0x03 ∷ 0x3F ∷ 0x00 ∷ [])
+      ∷ (0x04 ∷ 0x07 ∷ 0x06 ∷ 0xFF ∷ 0x01 ∷ 0xFF ∷ 0x01 ∷ [])
+      ∷ (0x05 ∷ 0x06 ∷ 0x07 ∷ 0xFF ∷ 0x01 ∷ 0x01 ∷ 0xFF ∷ 0xFF ∷ 0xFF ∷ 0xFF ∷ 0x0F ∷ 0x07 ∷ [])
+      ∷ (0x06 ∷ 0x03 ∷ 0xFF ∷ 0xFF ∷ 0xFF ∷ 0xFF ∷ 0x0F ∷ [])
+      ∷ [])
+      ≡ replicate 8 0
+  -- and one above it, field by field: refusal 8 "where the refused number starts". Unit, address (and one that is no multiple of 4)
+  pub above0 : map toldOf ((0x00 ∷ 0x04 ∷ 0x00 ∷ []) ∷ (0x00 ∷ 0x00 ∷ 0x80 ∷ 0x10 ∷ []) ∷ (0x00 ∷ 0x00 ∷ 0x02 ∷ []) ∷ []) ≡ map (refusedAt 8) (1 ∷ 2 ∷ 2 ∷ [])
+  pub above1 : map toldOf ((0x01 ∷ 0x04 ∷ 0x00 ∷ 0x00 ∷ []) ∷ (0x01 ∷ 0x00 ∷ 0x80 ∷ 0x10 ∷ 0x00 ∷ []) ∷ (0x01 ∷ 0x00 ∷ 0x02 ∷ 0x00 ∷ []) ∷ []) ≡ map (refusedAt 8) (1 ∷ 2 ∷ 2 ∷ [])
+  -- unit, block
+  pub above2 : map toldOf ((0x02 ∷ 0x04 ∷ 0x00 ∷ []) ∷ (0x02 ∷ 0x00 ∷ 0x40 ∷ []) ∷ []) ≡ map (refusedAt 8) (1 ∷ 2 ∷ [])
+  -- unit, command, block, retried; and "the later if two clash": an invalidate, and a copyback, that was retried
+  pub above3 :
+      map toldOf
+      ((0x03 ∷ 0x04 ∷ 0x00 ∷ 0x00 ∷ 0x00 ∷ [])
+      ∷ (0x03 ∷ 0x00 ∷ 0x04 ∷ 0x00 ∷ 0x00 ∷ [])
+      ∷ (0x03 ∷ 0x00 ∷ 0x00 ∷ 0x40 ∷ 0x00 ∷ [])
+      ∷ (0x03 ∷ 0x00 ∷ 0x00 ∷ 0x00 ∷ 0x02 ∷ [])
+      ∷ (0x03 ∷ 0x00 ∷ 0x02 ∷ 0x00 ∷ 0x01 ∷ [])
+      ∷ (0x03 ∷ 0x00 ∷ 0x03 ∷ 0x00 ∷ 0x01 ∷ [])
+      ∷ [])
+      ≡ map (refusedAt 8) (1 ∷ 2 ∷ 3 ∷ 4 ∷ 4 ∷ 4 ∷ [])
+  -- from, to, a `to` that clashes with `from`, AID, code
+  pub above4 :
+      map toldOf
+      ((0x04 ∷ 0x08 ∷ 0x00 ∷ 0x00 ∷ 0x00 ∷ [])
+      ∷ (0x04 ∷ 0x00 ∷ 0x08 ∷ 0x00 ∷ 0x00 ∷ [])
+      ∷ (0x04 ∷ 0x05 ∷ 0x05 ∷ 0x00 ∷ 0x00 ∷ [])
+      ∷ (0x04 ∷ 0x00 ∷ 0x01 ∷ 0x80 ∷ 0x02 ∷ 0x00 ∷ [])
+      ∷ (0x04 ∷ 0x00 ∷ 0x01 ∷ 0x00 ∷ 0x80 ∷ 0x02 ∷ [])
+      ∷ [])
+      ≡ map (refusedAt 8) (1 ∷ 2 ∷ 2 ∷ 3 ∷ 4 ∷ [])
+  -- from, to, a `to` that clashes with `from`, AID, write, BCT
+  pub above5 :
+      map toldOf
+      ((0x05 ∷ 0x08 ∷ 0x00 ∷ 0x00 ∷ 0x00 ∷ 0x00 ∷ 0x00 ∷ [])
+      ∷ (0x05 ∷ 0x00 ∷ 0x08 ∷ 0x00 ∷ 0x00 ∷ 0x00 ∷ 0x00 ∷ [])
+      ∷ (0x05 ∷ 0x05 ∷ 0x05 ∷ 0x00 ∷ 0x00 ∷ 0x00 ∷ 0x00 ∷ [])
+      ∷ (0x05 ∷ 0x00 ∷ 0x01 ∷ 0x80 ∷ 0x02 ∷ 0x00 ∷ 0x00 ∷ 0x00 ∷ [])
+      ∷ (0x05 ∷ 0x00 ∷ 0x01 ∷ 0x00 ∷ 0x02 ∷ 0x00 ∷ 0x00 ∷ [])
+      ∷ (0x05 ∷ 0x00 ∷ 0x01 ∷ 0x00 ∷ 0x00 ∷ 0x00 ∷ 0x08 ∷ [])
+      ∷ [])
+      ≡ map (refusedAt 8) (1 ∷ 2 ∷ 2 ∷ 3 ∷ 4 ∷ 6 ∷ [])
+  -- unit
+  pub above6 : toldOf (0x06 ∷ 0x04 ∷ 0x00 ∷ []) ≡ refusedAt 8 1
+  -- kind 7; an address spelled badly; a value that is missing
   pub unknown : toldOf (0x07 ∷ 0x00 ∷ []) ≡ refusedAt 7 0
-  pub range : toldOf (0x00 ∷ 0x04 ∷ 0x00 ∷ []) ≡ refusedAt 8 1
-  pub noCommand : toldOf (0x03 ∷ 0x00 ∷ 0x04 ∷ 0x00 ∷ 0x00 ∷ []) ≡ refusedAt 8 2
   pub spelling : toldOf (0x00 ∷ 0x00 ∷ 0xC8 ∷ 0x84 ∷ 0x00 ∷ []) ≡ refusedAt 6 2
   pub missing : toldOf (0x01 ∷ 0x00 ∷ 0xC8 ∷ 0x04 ∷ []) ≡ refusedAt 5 4
-  -- "the later if two clash": `to` with `from`, `retried` with the command
-  pub toClash : toldOf (0x04 ∷ 0x05 ∷ 0x05 ∷ 0x00 ∷ 0x00 ∷ []) ≡ refusedAt 8 2
-  pub retriedClash : toldOf (0x03 ∷ 0x00 ∷ 0x02 ∷ 0x00 ∷ 0x01 ∷ []) ≡ refusedAt 8 4
   -- "or the given place if that lies past the end. A place exactly at the end of the tape means finished and is no refusal."
   pub pastEnd : recordTold 3 (recordAt (0x00 ∷ 0x00 ∷ []) 3) ≡ refusedAt 5 3
   pub finished : recordTold 2 (recordAt (0x00 ∷ 0x00 ∷ []) 2) ≡ record { refusal = 0; place = 2; numbers = [] }

@@ -1,207 +1,162 @@
-// The machine's calls at each limit of "Numbers of refusal", 1 to 4, and the order of the tests.
-use crate::print::byte;
-use crate::print::line;
-use crate::print::number;
-use crate::print::word;
-use coherence::Answer;
-use coherence::Call;
-use coherence::Directory;
-use coherence::Entry;
-use coherence::Orders;
-use coherence::Slot;
-use order::Order;
+// Rows of the cache machine.
+use crate::bus::low;
+use crate::text::Row;
+use crate::text::show;
+use crate::text::show_all;
+use crate::text::show_byte;
+use crate::text::word;
 
-// A row for each call: the sizes of the memory store and the cache store, which directory (see `directory`), the kind (0 load, 1 store,
-// 2 flush, 3 peek), the unit, the address or block, and the value.
-const CALLS: [[u32; 7]; 27] = [
-    // "Addresses 2,044 and 2,048; blocks 63 and 64"; "not a multiple of 4, or above 2,044"; "processor number above 3"
-    [2048, 2048, 0, 0, 3, 2044, 0],
-    [2048, 2048, 0, 0, 3, 2048, 0],
-    [2048, 2048, 0, 0, 3, 2046, 0],
-    [2048, 2048, 0, 0, 4, 2044, 0],
-    [2048, 2048, 0, 0, 4, 2048, 0],
-    [2048, 2048, 0, 1, 3, 2044, 4294967295],
-    [2048, 2048, 0, 1, 3, 2048, 0],
-    [2048, 2048, 0, 1, 4, 2044, 0],
-    [2048, 2048, 0, 2, 3, 63, 0],
-    [2048, 2048, 0, 2, 3, 64, 0],
-    [2048, 2048, 0, 2, 4, 64, 0],
-    [2048, 2048, 0, 3, 0, 63, 0],
-    [2048, 2048, 0, 3, 0, 64, 0],
-    // "memory store or cache store isn't 2,048 bytes"; "Machine calls test 1, 2, 3, 4 in that order"
-    [2047, 2048, 0, 0, 0, 0, 0],
-    [2048, 2047, 0, 1, 0, 0, 0],
-    [2049, 2048, 0, 2, 0, 0, 0],
-    [2048, 2049, 0, 3, 0, 0, 0],
-    [2047, 2048, 1, 0, 4, 1, 0],
-    // "A valid slot s has a block of at most 63 with block mod 16 = s. A block that is EM in one unit is valid in no other."
-    [2048, 2048, 1, 0, 0, 0, 0],
-    [2048, 2048, 2, 0, 0, 0, 0],
-    [2048, 2048, 3, 0, 0, 0, 0],
-    [2048, 2048, 1, 0, 4, 1, 0],
-    [2048, 2048, 1, 3, 0, 64, 0],
-    // "Load, b held: no order"; "Store, b SU: order invalidate"; "Store, b EM: no order"; "Flush: EM gives a copyback"
-    [2048, 2048, 4, 0, 1, 4, 0],
-    [2048, 2048, 4, 1, 0, 4, 9],
-    [2048, 2048, 5, 1, 0, 4, 9],
-    [2048, 2048, 5, 2, 0, 0, 0],
-];
-
-// Slot n with x, all others invalid; slot p with y.
-fn two_slots(n: usize, x: Slot, p: usize, y: Slot) -> Directory {
-    let none = Entry {
-        slot: Slot::Invalid,
-    };
-    let mut slots = [none; 64];
-    if n < 64 {
-        slots[n] = Entry { slot: x };
+// What stands at a place before a call: in memory the number of the block, in the cache store 128 and the number of the slot; in the directory 0.
+fn filling(base: u8, place: usize) -> u8 {
+    if base > 128 {
+        return 0;
     }
-    if p < 64 {
-        slots[p] = Entry { slot: y };
-    }
-    Directory { slots }
+    base + (place / 32 % 65) as u8
 }
 
-// 0: all invalid. 1: block 64. 2: block 1 in slot 0. 3: block 0 EM in unit 0 and SU in unit 1. 4: block 0 SU in both. 5: block 0 EM in unit 0.
-fn directory(which: u32) -> Directory {
-    match which {
-        1 => two_slots(0, Slot::Shared(64), 1, Slot::Invalid),
-        2 => two_slots(0, Slot::Shared(1), 1, Slot::Invalid),
-        3 => two_slots(0, Slot::Modified(0), 16, Slot::Shared(0)),
-        4 => two_slots(0, Slot::Shared(0), 16, Slot::Shared(0)),
-        5 => two_slots(0, Slot::Modified(0), 1, Slot::Invalid),
-        _ => two_slots(0, Slot::Invalid, 1, Slot::Invalid),
+fn fill(store: &mut [u8], base: u8) {
+    for i in 0..store.len() {
+        store[i] = filling(base, i);
     }
 }
 
-fn show_order(given: Order) {
-    let command = given.command;
-    number(b" (", given.unit as u64);
-    number(b" ", order::command_number(command) as u64);
-    number(b" ", given.block as u64);
-    if given.retried {
-        word(b" retried)")
-    } else {
-        word(b")")
+// A run of equal bytes that are not the filling begins with its place and the byte; where such bytes end stands the place after them.
+fn mark(last: u64, place: usize, found: u8, filling: u8) -> u64 {
+    if found == filling {
+        if last != 256 {
+            word(b" to");
+            show(place as u64);
+        }
+        return 256;
+    }
+    if last != found as u64 {
+        word(b" at");
+        show(place as u64);
+        word(b":");
+        show_byte(found);
+    }
+    found as u64
+}
+
+fn changed(space: &[u8], base: u8) {
+    let mut last = 256;
+    for i in 0..space.len() {
+        last = mark(last, i, space[i], filling(base, i));
     }
 }
 
-fn show_orders(orders: Orders) {
-    let list = orders.list;
-    let count = orders.count;
-    for k in 0..4 {
-        if k < count {
-            let given = list[k];
-            show_order(given);
+// A slot of the directory, if it is given.
+fn put(directory: &mut [u8], slot: u64, state: u64, block: u64, given: bool) {
+    if given {
+        if slot < 64 {
+            let n = slot as usize;
+            if 2 * n + 1 < directory.len() {
+                directory[2 * n] = (state % 256) as u8;
+                directory[2 * n + 1] = (block % 256) as u8;
+            }
         }
     }
 }
 
-fn show(answer: Answer) {
-    number(b": refusal ", answer.refusal as u64);
-    number(b" value ", answer.value as u64);
-    word(b" orders");
-    let orders = answer.orders;
-    show_orders(orders);
-    line();
-}
-
-fn call_of(kind: u32, unit: u8, target: u32, value: u32) -> Call {
-    match kind {
-        0 => Call::Load {
-            unit,
-            address: target,
-        },
-        1 => Call::Store {
-            unit,
-            address: target,
-            value,
-        },
-        _ => Call::Flush {
-            unit,
-            block: (target % 256) as u8,
-        },
+// The slots of a row: number, state and block of each, from the seventh number on.
+fn put_all(directory: &mut [u8], v: [u64; 48], count: usize) {
+    for k in 2..15 {
+        put(
+            directory,
+            v[3 * k],
+            v[3 * k + 1],
+            v[3 * k + 2],
+            3 * k + 2 < count,
+        );
     }
 }
 
-fn peek<'a>(d: Directory, memory: &'a [u8], cache: &'a [u8], block: u8) {
-    number(
-        b": refusal ",
-        machine::peek_refusal(d, memory, cache, block) as u64,
+fn peek<'a>(directory: &'a [u8], memory: &'a [u8], cache: &'a [u8], block: u32) {
+    let mut store = 0u32;
+    let mut offset = 0u32;
+    let refusal = capi_machine::trainer_peek(
+        directory,
+        memory,
+        cache,
+        block,
+        &mut store,
+        &mut offset,
     );
-    let part = machine::peek(d, memory, cache, block);
-    number(b" shows ", part.len() as u64);
-    line();
+    show_all(&[refusal, store, offset]);
 }
 
-fn run_call(memory: &mut [u8], cache: &mut [u8], values: [u32; 7]) {
-    let d = directory(values[2]);
-    let kind = values[3];
-    let target = values[5];
-    if kind == 3 {
-        peek(d, memory, cache, (target % 256) as u8);
-    } else {
-        let unit = (values[4] % 256) as u8;
-        show(machine::run(d, memory, cache, call_of(kind, unit, target, values[6])));
+fn access(
+    directory: &mut [u8],
+    memory: &mut [u8],
+    cache: &mut [u8],
+    v: [u64; 48],
+    answer: &mut [u32],
+) -> u32 {
+    let unit = low(v[1]);
+    let target = low(v[2]);
+    match v[0] {
+        0 => capi_machine::trainer_load(directory, memory, cache, unit, target, answer),
+        1 => capi_machine::trainer_store(directory, memory, cache, unit, target, low(v[3]), answer),
+        2 => capi_machine::trainer_flush(directory, memory, cache, unit, target, answer),
+        _ => capi_machine::trainer_cold_start(memory, cache, directory),
     }
 }
 
-fn name(values: [u32; 7]) {
-    word(b"machine");
-    for j in 0..7 {
-        number(b" ", values[j] as u64);
+// A load (0), store (1), flush (2), cold start (3) or peek (4): the refusal, and the numbers of the answer. Then all that is not as it was filled.
+fn call(
+    directory: &mut [u8],
+    memory: &mut [u8],
+    cache: &mut [u8],
+    answer: &mut [u32],
+    v: [u64; 48],
+) {
+    if v[0] > 3 {
+        return peek(directory, memory, cache, low(v[2]));
     }
+    let refusal = access(directory, memory, cache, v, answer);
+    show_all(&[refusal]);
+    show_all(answer);
+    word(b" directory");
+    changed(directory, 255);
+    word(b" memory");
+    changed(memory, 0);
+    word(b" cache");
+    changed(cache, 128);
 }
 
-fn row(values: [u32; 7]) {
+// The call, the unit, the address or block, the value, the sizes of both stores, and the slots that are not invalid.
+pub(crate) fn machine(given: Row) {
+    let v = given.values;
+    let mut directory = [0u8; 128];
     let mut memory = [0u8; 2049];
     let mut cache = [0u8; 2049];
-    let m = values[0] as usize;
-    let c = values[1] as usize;
-    name(values);
+    let mut answer = [0u32; 18];
+    let m = v[4] as usize;
+    let c = v[5] as usize;
     if m <= 2049 {
         if c <= 2049 {
-            run_call(&mut memory[0..m], &mut cache[0..c], values);
+            run(
+                &mut directory,
+                &mut memory[0..m],
+                &mut cache[0..c],
+                &mut answer,
+                v,
+                given.count,
+            );
         }
     }
 }
 
-pub(crate) fn run_calls() {
-    for k in 0..27 {
-        row(CALLS[k]);
-    }
-}
-
-// "Cold start tests 1 alone", "cache store all zeros": the sizes of the memory store and the cache store, whose bytes are 7 before.
-const STARTS: [[usize; 2]; 5] = [
-    [2048, 2048],
-    [2047, 2048],
-    [2049, 2048],
-    [2048, 2047],
-    [2048, 2049],
-];
-
-fn start(sizes: [usize; 2]) {
-    let memory = [7u8; 2049];
-    let mut cache = [7u8; 2049];
-    let m = sizes[0];
-    let c = sizes[1];
-    number(b"start ", m as u64);
-    number(b" ", c as u64);
-    if m <= 2049 {
-        if c <= 2049 {
-            let started = machine::cold_start(&memory[0..m], &mut cache[0..c]);
-            number(b": refusal ", started.refusal as u64);
-        }
-    }
-    word(b" cache");
-    byte(cache[0]);
-    byte(cache[2046]);
-    line();
-}
-
-pub(crate) fn run_starts() {
-    for k in 0..5 {
-        start(STARTS[k]);
-    }
+fn run(
+    directory: &mut [u8],
+    memory: &mut [u8],
+    cache: &mut [u8],
+    answer: &mut [u32],
+    v: [u64; 48],
+    count: usize,
+) {
+    fill(memory, 0);
+    fill(cache, 128);
+    put_all(directory, v, count);
+    call(directory, memory, cache, answer, v);
 }

@@ -1,23 +1,58 @@
-// Runs values of document 01, and of document 02 where it amends 01, through the public calls and prints a line for each: the inputs, then the answer. The
-// file `stdout` beside src/ says what must be printed; it was written by hand from the documents, whose sentences stand beside each table of inputs.
+// Runs the rows of the file `stdin` beside src/ through the library for host programs, and prints each row with its answer in numbers. The file `stdout` has
+// what must be printed: values of document 01, and of document 02 where it amends 01. A line that begins with a quotation mark is a heading.
+mod bus;
 mod caches;
-mod drills;
-mod grants;
-mod print;
-mod signals;
 mod tapes;
+mod text;
+
+use text::Row;
+use text::parse;
+use text::word;
+
+// The answer to a row, which the first letter of its name chooses.
+fn answer(letter: u8, given: Row) {
+    match letter {
+        b'p' => bus::parity(given),
+        b'l' => bus::lanes(given),
+        b't' => bus::transfer(given),
+        b'a' => bus::answer(given),
+        b'c' => bus::class(given),
+        b'h' => bus::handler(given),
+        b'w' => tapes::writing(given),
+        b'm' => caches::machine(given),
+        _ => tapes::reading(letter, given),
+    }
+}
+
+// The line from `start` to `end`, if it ends there. Gives back the start of the next.
+fn line(text: &[u8], start: usize, end: usize) -> usize {
+    if end >= text.len() {
+        return start;
+    }
+    if text[end] != 10 {
+        return start;
+    }
+    if start < end {
+        let letter = text[start];
+        word(&text[start..end]);
+        if letter != 34 {
+            word(b":");
+            answer(letter, parse(&text[start..end], letter));
+        }
+    }
+    word(b"\n");
+    end + 1
+}
+
+fn lines(text: &[u8]) {
+    let mut start = 0;
+    for end in 0..text.len() {
+        start = line(text, start, end);
+    }
+}
 
 fn main() {
-    signals::run_parities();
-    signals::run_lanes();
-    signals::run_plans();
-    signals::run_codes();
-    signals::run_classes();
-    grants::run_grants();
-    grants::run_list();
-    tapes::run_readings();
-    tapes::run_writings();
-    caches::run_starts();
-    caches::run_calls();
-    drills::run_drills();
+    let mut text = [0u8; 65536];
+    let count = io::read_full(libc::STDIN_FILENO, &mut text);
+    lines(&text[..count]);
 }

@@ -12,19 +12,16 @@ use Rattle.bus.specs.Lanes.{carriedAt, positionsOf, wordsOf, lanesOf}
 use Rattle.bus.specs.Transfer.{etAtRequest, planOf}
 use Rattle.bus.specs.declared.answer.CodeFound.the-variants.{Code}
 use Rattle.bus.specs.Answer.{classOf, codeNumber, inRow, codeOf, isError}
-use Rattle.tape_format.specs.declared.Record.the-variants as tape
-use Rattle.tape_format.specs.declared.RecordRead.the-variants as read
-use Rattle.tape_format.specs.declared.Written.the-variants as wrote
 use Rattle.number.specs.Number.{groups, last, limitOf, carried, readGroups, refusing, numberAt, spellGroups, spell, spellAll, filled}
 use Rattle.tape_format.specs.Field.{allowed, ruled, fieldAt}
-use Rattle.tape_format.specs.Record.{store, layoutOf, andThen, fieldsAt, kindAt, recordAt, kindOf, fieldsOf, fits}
-use Rattle.tape_format.specs.Write.{valid, bytesOf, writtenOf, spaceAfter}
+use Rattle.tape_format.specs.Record.{store, layoutOf, andThen, fieldsAt, kindAt, recordAt, recordTold, kindOf, fieldsOf, fits}
+use Rattle.tape_format.specs.Write.{valid, bytesOf, writtenOf, writtenRefusal, writtenCount, spaceAfter}
 use Rattle.coherence.proofs.Examples.{examples}
 use Rattle.handler.specs.Handler.{lastUnit, unitGranted, lockNext, locked, met, passed, firstMet, moved, granted, byTurn, lowGrant, grantNext, lockAllowed, stateAllowed, setsAllowed, allowed as admits, arbitration, initial}
 use Rattle.worked.specs.Worked.{codes, classes, stored, zeroAndSeven, afterFirst, Worked}
 
 pub worked : Worked
-unfolding within sumBelow bitAt onesBelow fromBits byteAt parityBit parityOf carriedAt positionsOf wordsOf lanesOf etAtRequest planOf classOf codeNumber inRow codeOf isError limitOf carried readGroups refusing numberAt spellGroups spell spellAll filled allowed ruled fieldAt store layoutOf andThen fieldsAt kindAt recordAt kindOf fieldsOf fits valid bytesOf writtenOf spaceAfter lastUnit contains unitGranted lockNext locked met passed firstMet moved granted byTurn lowGrant grantNext lockAllowed stateAllowed setsAllowed admits arbitration initial codes classes stored zeroAndSeven afterFirst Option·elim
+unfolding within sumBelow bitAt onesBelow fromBits byteAt parityBit parityOf carriedAt positionsOf wordsOf lanesOf etAtRequest planOf classOf codeNumber inRow codeOf isError limitOf carried readGroups refusing numberAt spellGroups spell spellAll filled allowed ruled fieldAt store layoutOf andThen fieldsAt kindAt recordAt recordTold kindOf fieldsOf fits valid bytesOf writtenOf writtenRefusal writtenCount spaceAfter lastUnit contains unitGranted lockNext locked met passed firstMet moved granted byTurn lowGrant grantNext lockAllowed stateAllowed setsAllowed admits arbitration initial codes classes stored zeroAndSeven afterFirst Option·elim
 worked =
     record {
       p1 = refl;
@@ -35,7 +32,7 @@ worked =
       p6 = (refl, refl, refl);
       p7 = refl;
       p8 = λ locked. refl;
-      p9 = (refl, refl, refl);
+      p9 = (refl, refl, refl, refl);
       p10 = refl;
       p11 = examples .p11;
       p12 = (refl, refl, refl);

@@ -5,7 +5,6 @@ use mathlib.Core.Bool.{Bool, true, false}
 use mathlib.Core.List.{List, [], _∷_, map}
 use mathlib.Core.Option.{some}
 use lib.ListN.{replicate}
-use Rattle.order.specs.Refusal.{badNumber}
 use Rattle.bus.specs.Parity.{parityOf}
 use Rattle.bus.specs.Lanes.{lanesOf}
 use Rattle.bus.specs.Transfer.{planOf}
@@ -15,10 +14,8 @@ use Rattle.bus.specs.declared.answer.CodeFound.{CodeFound}
 use Rattle.bus.specs.declared.answer.CodeFound.the-variants.{Code}
 use Rattle.bus.specs.Answer.{classOf, codeOf, isError}
 use Rattle.tape_format.specs.declared.Record.the-variants as tape
-use Rattle.tape_format.specs.declared.RecordRead.the-variants as read
-use Rattle.tape_format.specs.declared.Written.the-variants as wrote
-use Rattle.tape_format.specs.Record.{recordAt}
-use Rattle.tape_format.specs.Write.{writtenOf, spaceAfter}
+use Rattle.tape_format.specs.Record.{recordAt, recordTold}
+use Rattle.tape_format.specs.Write.{writtenOf, writtenRefusal, writtenCount, spaceAfter}
 use Rattle.coherence.specs.Examples.{P11}
 use Rattle.handler.specs.declared.Class.the-variants.{Low}
 use Rattle.handler.specs.declared.State.{State}
@@ -66,11 +63,12 @@ pub record Worked : Type 0 where
       ∷ []
   -- store by 2 at 72 of 300 is `01 02 48 AC 02`
   pub p9 :
-      (writtenOf (tape.Store 2 72 300) 5 ≡ wrote.Bytes 5)
+      (writtenRefusal (writtenOf (tape.Store 2 72 300) 5) ≡ 0)
+      × (writtenCount (writtenOf (tape.Store 2 72 300) 5) ≡ 5)
       × (spaceAfter (tape.Store 2 72 300) (replicate 5 0) ≡ stored)
-      × (recordAt stored 0 ≡ read.Record (tape.Store 2 72 300) 5)
+      × (recordTold 0 (recordAt stored 0) ≡ record { refusal = 0; place = 5; numbers = 1 ∷ 2 ∷ 72 ∷ 300 ∷ [] })
   -- `80 00` as kind: refusal 6
-  pub p10 : recordAt (0x80 ∷ 0x00 ∷ []) 0 ≡ read.Refused badNumber 0
+  pub p10 : recordTold 0 (recordAt (0x80 ∷ 0x00 ∷ []) 0) ≡ record { refusal = 6; place = 0; numbers = [] }
   -- the first two drill calls: four orders, exactly one load plus three times one store
   pub p11 : P11
   -- fresh handler, LCK negated, RQH empty, RQL = {0, 7} twice: 0, then 7; with LCK asserted at the second call: 0 again

@@ -19,6 +19,14 @@ impl Counts {
         *self.codes.entry((what, code)).or_default() += 1;
     }
 
+    /// Each of these calls gave each of these numbers, 0 for an accepted call, and no other.
+    pub fn expect(&self, calls: &[(&'static str, &[u32])]) {
+        for (call, numbers) in calls {
+            let met: Vec<u32> = self.codes.keys().filter(|(what, _)| what == call).map(|(_, code)| *code).collect();
+            same("the numbers of refusal that were met", call, met, numbers.to_vec());
+        }
+    }
+
     pub fn print(&self) {
         for (what, count) in &self.compared {
             let codes: Vec<String> = self.codes.iter().filter(|((w, _), _)| w == what).map(|((_, code), n)| format!("{code}: {n}")).collect();

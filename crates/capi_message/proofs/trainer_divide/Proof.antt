@@ -7,8 +7,14 @@ use Rattle.capi_message.proofs.DivideLaws.{divide-returned, divide-refu
 use Rattle.capi_message.proofs.trainer_divide.Statement.{statement}
 use Rattle.capi_message.proofs.trainer_divide.Tie as tie
 
-division-of-requires : tie.Need-division-of-requires
-division-of-requires c κs = search needs
+byte-requires : tie.Need-byte-requires
+byte-requires c κs = search needs
+
+aid-from-requires : tie.Need-aid-from-requires
+aid-from-requires c κs = search needs
+
+divide-requires : tie.Need-divide-requires
+divide-requires c κs = search needs
 
 cast-result : tie.Need-cast-result
 cast-result c = search needs
@@ -16,15 +22,15 @@ cast-result c = search needs
 returns : tie.Need-returns
 unfolding divideOperations
 returns c =
-    let d = c .before .division-of .ensures in
+    let d = rw (c .before .before .aid-from .ensures, c .before .before .before .byte .ensures) at (c .before .divide .ensures) in
     (divide-returned _ _ _ _ d, rw (divide-refused _ _ _ _ d (c .if1 .taken)))
 
 returns-2 : tie.Need-returns-2
 unfolding divideOperations
 returns-2 c =
-    let d = c .before .division-of .ensures in
+    let d = rw (c .before .before .aid-from .ensures, c .before .before .before .byte .ensures) at (c .before .divide .ensures) in
     let e = c .if1 .left in
     (sym e ∙ divide-returned _ _ _ _ d, rw (divide-accepted _ _ _ _ d e) (ap (λ (x : Division). x .operations) d))
 
 pub trainer-divide-spec : {M : Type 1} → statement M
-trainer-divide-spec = tie.close (tie.spec division-of-requires cast-result returns returns-2)
+trainer-divide-spec = tie.close (tie.spec byte-requires aid-from-requires divide-requires cast-result returns returns-2)

@@ -1,7 +1,7 @@
 -- `capi_tape::trainer_read_record` meets its contract.
 use borrow.Author.Needs.{needs}
 use mathlib.Core.Path.{sym, _∙_}
-use Rattle.capi_tape.proofs.EntryLaws.{read-short, read-some, read-end, read-refused}
+use Rattle.capi_tape.proofs.EntryLaws.{numbers-put, read-short, read-some, read-end, read-refused}
 use Rattle.capi_tape.proofs.trainer_read_record.Statement.{statement}
 use Rattle.capi_tape.proofs.trainer_read_record.Tie as tie
 
@@ -17,8 +17,32 @@ read-record-requires c κs = search needs
 enum-known-r : tie.Need-enum-known-r
 enum-known-r c = search needs
 
-put-record-requires : tie.Need-put-record-requires
-put-record-requires c κs = search needs
+numbers-of-requires : tie.Need-numbers-of-requires
+numbers-of-requires c κs = search needs
+
+array-read-put-seven : tie.Need-array-read-put-seven
+array-read-put-seven c = let l = c .before .before .numbers-of .ensures .long in search needs
+
+array-read-put-seven-2 : tie.Need-array-read-put-seven-2
+array-read-put-seven-2 c = let l = c .before .before .numbers-of .ensures .long in search needs
+
+array-read-put-seven-3 : tie.Need-array-read-put-seven-3
+array-read-put-seven-3 c = let l = c .before .before .numbers-of .ensures .long in search needs
+
+array-read-put-seven-4 : tie.Need-array-read-put-seven-4
+array-read-put-seven-4 c = let l = c .before .before .numbers-of .ensures .long in search needs
+
+array-read-put-seven-5 : tie.Need-array-read-put-seven-5
+array-read-put-seven-5 c = let l = c .before .before .numbers-of .ensures .long in search needs
+
+array-read-put-seven-6 : tie.Need-array-read-put-seven-6
+array-read-put-seven-6 c = let l = c .before .before .numbers-of .ensures .long in search needs
+
+array-read-put-seven-7 : tie.Need-array-read-put-seven-7
+array-read-put-seven-7 c = let l = c .before .before .numbers-of .ensures .long in search needs
+
+put-seven-requires : tie.Need-put-seven-requires
+put-seven-requires c κs = search needs
 
 enum-told : tie.Need-enum-told
 enum-told c = search needs
@@ -34,8 +58,10 @@ same-length c = search needs
 
 returns-2 : tie.Need-returns-2
 returns-2 c =
-    let a = c .before .before .before .before .before .before .before .before .before .before .before .args in
-    read-some (a .tape .now) (a .numbers .now) (a .place) (a .next .now) _ _ _ (c .before .before .before .before .before .before .before .before .if1 .left) (sym (c .before .before .before .before .before .before .before .read-record .ensures) ∙ c .before .before .before .before .before .r .given .1) (c .before .before .put-record .ensures)
+    let a = c .before .before .before .before .before .before .before .before .before .before .before .before .before .args in
+    let n = c .before .before .before .before .before .numbers-of .ensures in
+    read-some (a .tape .now) (a .numbers .now) (a .place) (a .next .now) _ _ _ (c .before .before .before .before .before .before .before .before .before .before .if1 .left) (sym (c .before .before .before .before .before .before .before .before .before .read-record .ensures) ∙ c .before .before .before .before .before .before .before .r .given .1)
+    (c .before .before .put-seven .ensures ∙ numbers-put _ _ (a .numbers .now) (n .long) (n .padding))
 
 returns-3 : tie.Need-returns-3
 returns-3 c =
@@ -55,7 +81,15 @@ trainer-read-record-spec =
     returns
     read-record-requires
     enum-known-r
-    put-record-requires
+    numbers-of-requires
+    array-read-put-seven
+    array-read-put-seven-2
+    array-read-put-seven-3
+    array-read-put-seven-4
+    array-read-put-seven-5
+    array-read-put-seven-6
+    array-read-put-seven-7
+    put-seven-requires
     enum-told
     enum-known-number
     cast-result-2

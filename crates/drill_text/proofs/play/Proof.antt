@@ -1,7 +1,7 @@
 -- `drill_text::play` meets its contract.
 use mathlib.Core.Path.{refl}
 use native.Mathlib.Omega.{arith}
-use Rattle.drill_text.specs.Drill.{zeroStore}
+use Rattle.drill_text.specs.Drill.{zeroStore, printed}
 use Rattle.drill_text.proofs.DrillLaws.{long-text, started-cache, started-directory, whole-text}
 use borrow.Author.Needs.{needs}
 use Rattle.drill_text.proofs.play.Statement.{statement}
@@ -14,9 +14,22 @@ same-length : tie.Need-same-length
 same-length c = search needs
 
 returns : tie.Need-returns
+unfolding printed
 returns c =
     let p = c .before .before .put-refused .ensures in
-    rw (long-text (c .before .before .before .before .before .before .before .args .tape .now) (c .before .before .before .before .if1 .taken)) (p .0, omega (arith, p .1))
+    rw (c .before .before .before .before .if1 .taken) (p .0, omega (arith, p .1))
+
+put-refused-requires-2 : tie.Need-put-refused-requires-2
+put-refused-requires-2 c κs = search needs
+
+same-length-2 : tie.Need-same-length-2
+same-length-2 c = search needs
+
+returns-2 : tie.Need-returns-2
+unfolding printed
+returns-2 c =
+    let p = c .before .before .put-refused2 .ensures in
+    rw (c .before .before .before .before .before .if1 .left, long-text (c .before .before .before .before .before .before .before .before .args .tape .now) (c .before .before .before .before .if2 .taken)) (p .0, omega (arith, p .1))
 
 slice-aggregate-cold-start : tie.Need-slice-aggregate-cold-start
 slice-aggregate-cold-start c = search needs
@@ -36,32 +49,16 @@ slice-aggregate-run-tape-2 c = search needs
 run-tape-requires : tie.Need-run-tape-requires
 run-tape-requires c κs = search needs
 
-same-length-2 : tie.Need-same-length-2
-same-length-2 c = search needs
+same-length-3 : tie.Need-same-length-3
+same-length-3 c = search needs
 
-returns-2 : tie.Need-returns-2
-unfolding zeroStore
-returns-2 c =
-    let run = c .before .before .before .before in
-    let start = run .before .before .before .before .before .before in
-    let test = start .before .before .before in
-    let zeros = started-cache _ _ _ refl refl (start .cold-start .ensures .1) in
-    let directory = started-directory _ _ _ (start .cold-start .ensures .0) in
-    let text = whole-text (test .before .before .before .args .tape .now) _ _ _ (test .if1 .left) directory refl zeros in
-    (rw text at (run .run-tape .ensures .0), run .run-tape .ensures .1)
+returns-3 : tie.Need-returns-3
+unfolding printed zeroStore
+returns-3 c =
+    let zeros = started-cache _ _ _ refl refl (c .before .before .before .before .before .before .before .before .before .before .cold-start .ensures .1) in
+    let directory = started-directory _ _ _ (c .before .before .before .before .before .before .before .before .before .before .cold-start .ensures .0) in
+    let text = whole-text (c .before .before .before .before .before .before .before .before .before .before .before .before .before .before .before .before .before .args .tape .now) _ _ _ (c .before .before .before .before .before .before .before .before .before .before .before .before .before .if2 .left) directory refl zeros in
+    rw (c .before .before .before .before .before .before .before .before .before .before .before .before .before .before .if1 .left) (rw text at (c .before .before .before .before .run-tape .ensures .0), c .before .before .before .before .run-tape .ensures .1)
 
 pub play-spec : {M : Type 1} → statement M
-play-spec =
-    tie.close
-    (tie.spec
-    put-refused-requires
-    same-length
-    returns
-    slice-aggregate-cold-start
-    slice-aggregate-cold-start-2
-    cold-start-requires
-    slice-aggregate-run-tape
-    slice-aggregate-run-tape-2
-    run-tape-requires
-    same-length-2
-    returns-2)
+play-spec = tie.close (tie.spec put-refused-requires same-length returns put-refused-requires-2 same-length-2 returns-2 slice-aggregate-cold-start slice-aggregate-cold-start-2 cold-start-requires slice-aggregate-run-tape slice-aggregate-run-tape-2 run-tape-requires same-length-3 returns-3)

@@ -1,14 +1,23 @@
 -- `machine::store` meets its contract.
 use native.Mathlib.Omega.{arith}
-use mathlib.Core.Path.{refl, sym, _∙_}
+use lib.ListN.{length}
+use mathlib.Core.Path.{_≡_, refl, sym, _∙_}
 use Rattle.coherence.specs.Calls.{unitOf, isTarget, refusal, act, loaded}
 use Rattle.coherence.specs.declared.Call.the-variants.{Store}
 use Rattle.machine.proofs.Refusals.{known, address-of}
 use Rattle.machine.proofs.Accesses.{store-owned, store-shared, store-missed}
 use Rattle.machine.proofs.Calls.{comes-to, refuses}
+use Rattle.coherence.proofs.SlotLaws.{size}
+use Rattle.slots.proofs.Sets.{length-mapped}
 use borrow.Author.Needs.{needs}
 use Rattle.machine.proofs.store.Statement.{statement}
+use Rattle.machine.proofs.store.Lts as lts
 use Rattle.machine.proofs.store.Tie as tie
+
+-- the directory that is given has its slots
+whole : (k : lts.Claims) (p : _) (q : _) (c : lts.Start k p q) → size (c .args .directory) ≡ 64
+unfolding size
+whole k p q c = let h : length (c .args .directory .slots) ≡ 64 = search (needs, length-mapped) in h
 
 is-address-requires : tie.Need-is-address-requires
 is-address-requires c κs = search needs
@@ -59,23 +68,6 @@ no-orders-requires c κs = search needs
 accepted-requires : tie.Need-accepted-requires
 accepted-requires c κs = search needs
 
-same-length-3 : tie.Need-same-length-3
-same-length-3 c = search needs
-
-same-length-4 : tie.Need-same-length-4
-same-length-4 c = search needs
-
-returns-2 : tie.Need-returns-2
-unfolding refusal unitOf isTarget act loaded
-returns-2 c =
-    let e = rw (c .before .before .before .before .before .before .before .before .before .before .before .before .before .is-address .ensures) at (c .before .before .before .before .before .before .before .before .before .before .before .before .refusal-of .ensures) in
-    let z = sym e ∙ c .before .before .before .before .before .before .before .before .before .before .before .if1 .left in
-    let q = known _ _ _ _ _ z in
-    let s = rw (c .before .before .before .before .before .before .before .before .before .before .place-of .ensures) at (c .before .before .before .before .before .before .before .before .before .slot-at .ensures) in
-    let g = sym (rw s at (c .before .before .before .before .before .before .before .has-modified .ensures)) ∙ c .before .before .before .before .before .before .if2 .taken in
-    comes-to _ _ _ (Store _ _ _) z (store-owned _ _ _ _ _ _ q g) (c .accepted .ensures) refl (c .before .no-orders .ensures) refl refl
-    (rw (c .before .before .before .before .before .before .before .before .cache-place .ensures) at (c .before .before .before .before .put-word .ensures))
-
 holds-block-requires : tie.Need-holds-block-requires
 holds-block-requires c κs = search needs
 
@@ -103,14 +95,28 @@ put-word-requires-3 c κs = search needs
 fetch-orders-requires : tie.Need-fetch-orders-requires
 fetch-orders-requires c κs = search needs
 
-fetched-requires : tie.Need-fetched-requires
-fetched-requires c κs = search needs
-
 claimed-requires-2 : tie.Need-claimed-requires-2
 claimed-requires-2 c κs = search needs
 
 accepted-requires-3 : tie.Need-accepted-requires-3
 accepted-requires-3 c κs = search needs
+
+same-length-3 : tie.Need-same-length-3
+same-length-3 c = search needs
+
+same-length-4 : tie.Need-same-length-4
+same-length-4 c = search needs
+
+returns-2 : tie.Need-returns-2
+unfolding refusal unitOf isTarget act loaded
+returns-2 c =
+    let e = rw (c .before .before .before .before .before .before .before .before .before .before .before .before .before .is-address .ensures) at (c .before .before .before .before .before .before .before .before .before .before .before .before .refusal-of .ensures) in
+    let z = sym e ∙ c .before .before .before .before .before .before .before .before .before .before .before .if1 .left in
+    let q = known _ _ _ _ _ z in
+    let s = rw (c .before .before .before .before .before .before .before .before .before .before .place-of .ensures) at (c .before .before .before .before .before .before .before .before .before .slot-at .ensures) in
+    let g = sym (rw s at (c .before .before .before .before .before .before .before .has-modified .ensures)) ∙ c .before .before .before .before .before .before .if2 .taken in
+    comes-to _ _ _ (Store _ _ _) z (store-owned _ _ _ _ _ _ q g) (c .accepted .ensures) refl (c .before .no-orders .ensures) refl refl
+    (rw (c .before .before .before .before .before .before .before .before .cache-place .ensures) at (c .before .before .before .before .put-word .ensures))
 
 same-length-5 : tie.Need-same-length-5
 same-length-5 c = search needs
@@ -139,18 +145,17 @@ same-length-8 c = search needs
 returns-4 : tie.Need-returns-4
 unfolding refusal unitOf isTarget act loaded
 returns-4 c =
-    let e = rw (c .before .before .before .before .before .before .before .before .before .before .before .before .before .before .before .before .before .before .before .before .before .before .before .before .before .is-address .ensures) at (c .before .before .before .before .before .before .before .before .before .before .before .before .before .before .before .before .before .before .before .before .before .before .before .before .refusal-of .ensures) in
-    let z = sym e ∙ c .before .before .before .before .before .before .before .before .before .before .before .before .before .before .before .before .before .before .before .before .before .before .before .if1 .left in
+    let e = rw (c .before .before .before .before .before .before .before .before .before .before .before .before .before .before .before .before .before .before .before .before .before .before .before .before .is-address .ensures) at (c .before .before .before .before .before .before .before .before .before .before .before .before .before .before .before .before .before .before .before .before .before .before .before .refusal-of .ensures) in
+    let z = sym e ∙ c .before .before .before .before .before .before .before .before .before .before .before .before .before .before .before .before .before .before .before .before .before .before .if1 .left in
     let q = known _ _ _ _ _ z in
-    let n = c .before .before .before .before .before .before .before .before .before .before .before .before .before .before .before .before .before .before .before .before .before .before .place-of .ensures in
-    let s = rw n at (c .before .before .before .before .before .before .before .before .before .before .before .before .before .before .before .before .before .before .before .before .before .slot-at .ensures) in
-    let g = sym (rw s at (c .before .before .before .before .before .before .before .before .before .before .before .before .before .before .before .before .before .before .before .has-modified .ensures)) ∙ c .before .before .before .before .before .before .before .before .before .before .before .before .before .before .before .before .before .before .if2 .left in
-    let h = sym (rw s at (c .before .before .before .before .before .before .before .before .before .before .before .before .before .before .before .before .before .holds-block .ensures)) ∙ c .before .before .before .before .before .before .before .before .before .before .before .before .before .before .before .before .if3 .left in
-    let v = c .before .before .before .before .before .before .before .before .before .before .before .before .before .before .before .owner .ensures in
-    let f = rw (s, n, v) at (c .before .before .before .before .before .before .before .before .before .before .before .before .fetch-bytes .ensures) in
-    let d = rw (n, v) at (c .before .before .fetched .ensures) in
-    comes-to _ _ _ (Store _ _ _) z (store-missed _ _ _ _ _ _ q g h) (c .accepted3 .ensures) refl (rw (s, v) at (c .before .before .before .fetch-orders .ensures))
-    (rw d at (c .before .claimed2 .ensures)) (f .0) (rw (f .1, c .before .before .before .before .before .before .before .before .before .before .before .before .before .before .before .before .before .before .before .before .cache-place .ensures) at (c .before .before .before .before .before .before .put-word3 .ensures))
+    let n = c .before .before .before .before .before .before .before .before .before .before .before .before .before .before .before .before .before .before .before .before .before .place-of .ensures in
+    let s = rw n at (c .before .before .before .before .before .before .before .before .before .before .before .before .before .before .before .before .before .before .before .before .slot-at .ensures) in
+    let g = sym (rw s at (c .before .before .before .before .before .before .before .before .before .before .before .before .before .before .before .before .before .before .has-modified .ensures)) ∙ c .before .before .before .before .before .before .before .before .before .before .before .before .before .before .before .before .before .if2 .left in
+    let h = sym (rw s at (c .before .before .before .before .before .before .before .before .before .before .before .before .before .before .before .before .holds-block .ensures)) ∙ c .before .before .before .before .before .before .before .before .before .before .before .before .before .before .before .if3 .left in
+    let v = c .before .before .before .before .before .before .before .before .before .before .before .before .before .before .owner .ensures in
+    let f = rw (s, n, v) at (c .before .before .before .before .before .before .before .before .before .before .before .fetch-bytes .ensures) in
+    comes-to _ _ _ (Store _ _ _) z (store-missed _ _ _ _ _ _ q (whole _ _ _ (c .before .before .before .before .before .before .before .before .before .before .before .before .before .before .before .before .before .before .before .before .before .before .before .before .before .before .before .before .before)) g h) (c .accepted3 .ensures) refl (rw (s, v) at (c .before .before .fetch-orders .ensures))
+    (c .before .claimed2 .ensures) (f .0) (rw (f .1, c .before .before .before .before .before .before .before .before .before .before .before .before .before .before .before .before .before .before .before .cache-place .ensures) at (c .before .before .before .before .before .put-word3 .ensures))
 
 pub store-spec : {M : Type 1} → statement M
-store-spec = tie.close (tie.spec is-address-requires refusal-of-requires refused-requires same-length same-length-2 returns cast-block place-of-requires slot-at-requires cache-place-requires has-modified-requires put-word-requires no-orders-requires accepted-requires same-length-3 same-length-4 returns-2 holds-block-requires put-word-requires-2 one-order-requires claimed-requires accepted-requires-2 owner-requires fetch-bytes-requires put-word-requires-3 fetch-orders-requires fetched-requires claimed-requires-2 accepted-requires-3 same-length-5 same-length-6 returns-3 same-length-7 same-length-8 returns-4)
+store-spec = tie.close (tie.spec is-address-requires refusal-of-requires refused-requires same-length same-length-2 returns cast-block place-of-requires slot-at-requires cache-place-requires has-modified-requires put-word-requires no-orders-requires accepted-requires holds-block-requires put-word-requires-2 one-order-requires claimed-requires accepted-requires-2 owner-requires fetch-bytes-requires put-word-requires-3 fetch-orders-requires claimed-requires-2 accepted-requires-3 same-length-3 same-length-4 returns-2 same-length-5 same-length-6 returns-3 same-length-7 same-length-8 returns-4)

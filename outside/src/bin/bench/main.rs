@@ -1,6 +1,8 @@
 //! The benchmark: each call of the proved library beside plain Rust with the same checks, on the same inputs, in one run.
 //! "Rust, same work" decodes and encodes the directory as the proved side does; "Rust, in place" works on its bytes.
 //! Each figure is the least of many rounds, in nanoseconds for one operation; the two sides take turns.
+mod bus;
+mod handler;
 mod interrupts;
 mod messages;
 mod packed;
@@ -308,6 +310,90 @@ fn interrupt_rows() {
     row("write_interrupt", proved, rust, None);
 }
 
+/// A row of calls that lend numbers only: `work` gives a sum that depends on every answer, for the proved side (true) and for Rust.
+fn numbers_row<T>(name: &str, inputs: &[T], work: impl Fn(bool, &[T]) -> u64) {
+    let [proved, rust] = measure::<2>(inputs.len(), |n| work(n == 0, black_box(inputs)));
+    row(name, proved, rust, None);
+}
+
+fn bus_rows() {
+    let mut random = Random::new(123);
+    let wide = |random: &mut Random| u64::from(random.next()) << 32 | u64::from(random.next());
+    let words: Vec<(u64, u32)> = (0..40_000).map(|_| (wide(&mut random), random.below(256))).collect();
+    numbers_row("parity", &words, |proved, words| {
+        let parity = if proved { archive::parity } else { bus::trainer_parity };
+        words.iter().map(|&(word, _)| u64::from(parity(word))).sum()
+    });
+    numbers_row("check", &words, |proved, words| {
+        let check = if proved { archive::check } else { bus::trainer_check };
+        let one = |&(word, set): &(u64, u32)| {
+            let (mut wrong, mut count) = (0, 0);
+            u64::from(check(word, set, &mut wrong, &mut count) + wrong + 256 * count)
+        };
+        words.iter().map(one).sum()
+    });
+    let accesses: Vec<(u32, u32)> = (0..40_000).map(|_| (random.next(), random.below(8))).collect();
+    numbers_row("lanes", &accesses, |proved, accesses| {
+        let lanes = if proved { archive::lanes } else { bus::trainer_lanes };
+        let one = |&(ra, bct): &(u32, u32)| {
+            let (mut words, mut positions) = (0, 0);
+            u64::from(lanes(ra, bct, &mut words, &mut positions) + words + 4 * positions)
+        };
+        accesses.iter().map(one).sum()
+    });
+    let cycles: Vec<(u32, u32, u32)> = (0..40_000)
+        .map(|_| {
+            let n = 1 + random.below(64);
+            (n, 1 + random.below(n), random.below(2))
+        })
+        .collect();
+    numbers_row("plan", &cycles, |proved, cycles| {
+        let plan = if proved { archive::plan } else { bus::trainer_plan };
+        let one = |&(n, cycle, locked): &(u32, u32, u32)| {
+            let mut levels = [0; 4];
+            u64::from(plan(n, cycle, locked, &mut levels) + levels[0] + 2 * levels[1] + 4 * levels[2] + 8 * levels[3])
+        };
+        cycles.iter().map(one).sum()
+    });
+    let codes: Vec<u32> = (0..40_000).map(|_| random.below(256)).collect();
+    numbers_row("class", &codes, |proved, codes| {
+        let class = if proved { archive::class } else { bus::trainer_class };
+        let one = |&code: &u32| {
+            let (mut number, mut carried, mut error) = (0, 0, 0);
+            u64::from(class(code, &mut number, &mut carried, &mut error) + number + 16 * carried + 4096 * error)
+        };
+        codes.iter().map(one).sum()
+    });
+    let classes: Vec<(u32, u32)> = codes
+        .iter()
+        .map(|&code| {
+            let (mut number, mut carried, mut error) = (0, 0, 0);
+            bus::trainer_class(code, &mut number, &mut carried, &mut error);
+            (number, carried)
+        })
+        .collect();
+    numbers_row("code", &classes, |proved, classes| {
+        let code_of = if proved { archive::code } else { bus::trainer_code };
+        let one = |&(class, carried): &(u32, u32)| {
+            let mut code = 0;
+            u64::from(code_of(class, carried, &mut code) + code)
+        };
+        classes.iter().map(one).sum()
+    });
+    let requests: Vec<(u32, u32, u32)> = (0..40_000)
+        .map(|_| (if random.one_in(2) { random.below(256) } else { 0 }, random.below(256), random.below(2)))
+        .collect();
+    numbers_row("arbitrate", &requests, |proved, requests| {
+        let arbitrate = if proved { archive::arbitrate } else { handler::trainer_arbitrate };
+        let mut state = [7, 7, 8];
+        let mut one = |&(high, low, lck): &(u32, u32, u32)| {
+            let (mut grant, mut unit) = (0, 0);
+            u64::from(arbitrate(black_box(&mut state[..]), high, low, lck, &mut grant, &mut unit) + 8 * grant + 32 * unit)
+        };
+        requests.iter().map(&mut one).sum()
+    });
+}
+
 /// The loop of the program `mix` in plain Rust: five million loads and stores with their tests, and no boundary around them.
 fn mix(load: impl Fn(u32, u32) -> u32, store: impl Fn(u32, u32, u32)) -> u32 {
     let (mut sum, mut x) = (0u32, 12345u32);
@@ -405,6 +491,7 @@ fn main() {
     tape_rows();
     message_rows();
     interrupt_rows();
+    bus_rows();
     match std::env::args().nth(1) {
         Some(program) => mix_row(&program),
         None => println!("(give the built program mix as the argument to time it too)"),

@@ -5,8 +5,8 @@ use Rattle.capi_message.specs.Layout.{receiverOf}
 use Rattle.capi_message.proofs.layout.receiver_of.Statement.{statement}
 use Rattle.capi_message.proofs.layout.receiver_of.Tie as tie
 
-sender-from-requires : tie.Need-sender-from-requires
-sender-from-requires c κs = search needs
+byte-requires : tie.Need-byte-requires
+byte-requires c κs = search needs
 
 aid-from-requires : tie.Need-aid-from-requires
 aid-from-requires c κs = search needs
@@ -21,7 +21,7 @@ returns-2 c = rw (c .before .match .keys1, c .if1 .left)
 
 returns-3 : tie.Need-returns-3
 unfolding receiverOf
-returns-3 c = rw (c .before .before .match .keys2, c .aid-from .ensures, c .before .sender-from .ensures)
+returns-3 c = rw (c .before .before .match .keys2, c .aid-from .ensures, c .before .byte .ensures)
 
 returns-4 : tie.Need-returns-4
 unfolding receiverOf
@@ -30,4 +30,4 @@ returns-4 c = rw (ne-eqb _ 0 (c .match .rest .0 .1), ne-eqb _ 1 (c .match .rest 
 pub receiver-of-spec : {M : Type 1} → statement M
 receiver-of-spec =
     tie.close
-    (tie.spec sender-from-requires aid-from-requires returns returns-2 returns-3 returns-4)
+    (tie.spec byte-requires aid-from-requires returns returns-2 returns-3 returns-4)

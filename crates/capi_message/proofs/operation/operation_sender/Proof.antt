@@ -5,16 +5,16 @@ use Rattle.capi_message.specs.Operation.{operationSender}
 use Rattle.capi_message.proofs.operation.operation_sender.Statement.{statement}
 use Rattle.capi_message.proofs.operation.operation_sender.Tie as tie
 
-sender-from-requires : tie.Need-sender-from-requires
-sender-from-requires c κs = search needs
+byte-requires : tie.Need-byte-requires
+byte-requires c κs = search needs
 
 returns : tie.Need-returns
 unfolding operationSender
-returns c = rw (le-leb _ 3 (c .before .if1 .taken)) (c .sender-from .ensures)
+returns c = rw (le-leb _ 3 (c .before .if1 .taken)) (c .byte .ensures)
 
 returns-2 : tie.Need-returns-2
 unfolding operationSender
 returns-2 c = rw (lt-leb _ 3 (c .if1 .left))
 
 pub operation-sender-spec : {M : Type 1} → statement M
-operation-sender-spec = tie.close (tie.spec sender-from-requires returns returns-2)
+operation-sender-spec = tie.close (tie.spec byte-requires returns returns-2)

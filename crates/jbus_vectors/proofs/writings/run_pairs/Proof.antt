@@ -1,26 +1,26 @@
 -- `jbus_vectors::writings::run_pairs` counts no more pairs than it has passed, and ends.
 use borrow.Author.Needs.{needs}
-use Prim.Native.Nat.{_≤_, _-_, _*_}
+use Prim.Native.Nat.{_≤_, _-_}
 use Rattle.jbus_vectors.proofs.writings.run_pairs.Statement.{statement}
 use Rattle.jbus_vectors.proofs.writings.run_pairs.Tie as tie
 
 abbrev Inv-loop : tie.InvT-loop
-Inv-loop n₀ target₀ t3 t4 n target = (target ≤ 32) × (n ≤ 32 * target)
+Inv-loop n₀ k₀ t3 t4 n k = (k ≤ 1024) × (n ≤ k)
 
 abbrev μ-loop : tie.MeasureT-loop
-μ-loop n₀ target₀ t3 t4 n target = 32 - target
+μ-loop n₀ k₀ t3 t4 n k = 1024 - k
 
 loop-holds : tie.Need-loop-holds Inv-loop μ-loop
 loop-holds c = search needs
 
-come-back-requires : tie.Need-come-back-requires Inv-loop μ-loop
-come-back-requires c κs = search needs
+comes-back-requires : tie.Need-comes-back-requires Inv-loop μ-loop
+comes-back-requires c κs = search needs
 
 add-n : tie.Need-add-n Inv-loop μ-loop
 add-n c = search needs
 
-add-target : tie.Need-add-target Inv-loop μ-loop
-add-target c = search needs
+add-k : tie.Need-add-k Inv-loop μ-loop
+add-k c = search needs
 
 loop-less : tie.Need-loop-less Inv-loop μ-loop
 loop-less c = search needs
@@ -53,9 +53,9 @@ run-pairs-spec =
     Inv-loop
     μ-loop
     loop-holds
-    come-back-requires
+    comes-back-requires
     add-n
-    add-target
+    add-k
     loop-less
     loop-again
     slice-aggregate-number

@@ -1,6 +1,6 @@
 -- `layout::directory::state_of` meets its contract.
 use borrow.Author.Needs.{needs}
-use Rattle.layout.specs.Directory.{stateOf}
+use Rattle.coherence.specs.Slots.{stateNumber}
 use Rattle.layout.proofs.directory.state_of.Statement.{statement}
 use Rattle.layout.proofs.directory.state_of.Tie as tie
 
@@ -14,15 +14,15 @@ enum-told-3 : tie.Need-enum-told-3
 enum-told-3 c = search needs
 
 returns : tie.Need-returns
-unfolding stateOf
+unfolding stateNumber
 returns c = search needs
 
 returns-2 : tie.Need-returns-2
-unfolding stateOf
+unfolding stateNumber
 returns-2 c = search needs
 
 returns-3 : tie.Need-returns-3
-unfolding stateOf
+unfolding stateNumber
 returns-3 c = search needs
 
 pub state-of-spec : {M : Type 1} → statement M

@@ -16,8 +16,8 @@ loop-holds c = search needs
 mul-row : tie.Need-mul-row Inv-loop μ-loop
 mul-row c = search needs
 
-array-copy-out-row : tie.Need-array-copy-out-row Inv-loop μ-loop
-array-copy-out-row c = search needs
+array-read-row : tie.Need-array-read-row Inv-loop μ-loop
+array-read-row c = search needs
 
 row-requires : tie.Need-row-requires Inv-loop μ-loop
 row-requires c κs = search needs
@@ -42,7 +42,7 @@ run-operations-spec =
     μ-loop
     loop-holds
     mul-row
-    array-copy-out-row
+    array-read-row
     row-requires
     add-k
     loop-less

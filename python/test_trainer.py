@@ -1,0 +1,201 @@
+"""Tests of the Python module: values of documents 01 and 02. python3 python/test_trainer.py, after ./library."""
+import random
+import sys
+import unittest
+from pathlib import Path
+
+sys.path.insert(0, str(Path(__file__).resolve().parent))
+import trainer
+from trainer import Command, Device, Grant, HandlerState, Order, Refused, Sequence, Slot, State
+
+DRILL = bytes.fromhex("01004809 00014801 01480A00 00C80400 01C80402 0102")
+
+
+class Case(unittest.TestCase):
+    def refused(self, number, name, call, *given, place=None):
+        with self.assertRaises(Refused) as caught:
+            call(*given)
+        self.assertEqual((caught.exception.number, caught.exception.name, caught.exception.place), (number, name, place))
+
+
+class Machines(Case):
+    def test_orders_and_slots(self):
+        machine = trainer.Machine()
+        self.assertEqual(machine.store(0, 72, 9), (0, (Order(0, Command.MODIFIED_READ, 2, False),)))
+        self.assertEqual(machine.slot(0, 2), Slot(State.MODIFIED, 2))
+        reply = machine.load(1, 72)
+        self.assertEqual(reply.value, 9)
+        self.assertEqual(reply.orders, (Order(1, Command.READ, 2, True), Order(0, Command.COPYBACK, 2, False), Order(1, Command.READ, 2, False)))
+        self.assertEqual([machine.slot(unit, 2) for unit in range(4)], [Slot(State.SHARED, 2)] * 2 + [Slot(State.INVALID, 0)] * 2)
+        self.assertEqual(machine.store(1, 72, 10).orders, (Order(1, Command.INVALIDATE, 2, False),))
+        self.assertEqual(machine.flush(1, 2).orders, (Order(1, Command.COPYBACK, 2, False),))
+        self.assertEqual(machine.flush(1, 2), (0, ()))
+        self.assertEqual(machine.memory[72:76], bytes([0, 0, 0, 10]))
+
+    def test_peek_shows_the_newest(self):
+        memory = bytes(n % 251 for n in range(2048))
+        machine = trainer.Machine(memory)
+        self.assertEqual(machine.peek(63), memory[2016:])
+        self.assertEqual(machine.load(3, 2044).value, int.from_bytes(memory[2044:], "big"))
+        machine.store(2, 64, 0x01020304)
+        self.assertEqual(machine.peek(2), bytes([1, 2, 3, 4]) + memory[68:96])
+        self.assertEqual(machine.cache[512 * 2 + 32 * 2 :][:4], bytes([1, 2, 3, 4]))
+        self.assertEqual(machine.memory, memory)
+
+    def test_refusals(self):
+        machine = trainer.Machine()
+        self.refused(1, "wrong size", trainer.Machine, bytes(2047))
+        self.refused(1, "wrong size", trainer.Machine, bytes(2049))
+        self.refused(3, "no unit", machine.load, 4, 2048)
+        self.refused(4, "bad address", machine.load, 3, 2048)
+        self.refused(4, "bad address", machine.store, 3, 2, 0)
+        self.refused(4, "bad address", machine.flush, 3, 64)
+        self.refused(4, "bad address", machine.peek, 64)
+        self.refused(3, "no unit", machine.load, 2**32 - 1, 0)
+        for bad in (-1, 2**32):
+            self.assertRaises(OverflowError, machine.load, bad, 0)
+        machine._directory[0] = 3
+        self.refused(2, "broken directory", machine.load, 4, 1)
+        self.refused(2, "broken directory", machine.peek, 64)
+
+    def test_a_list_of_calls_against_plain_memory(self):
+        chance = random.Random(1)
+        plain = bytearray(chance.randbytes(2048))
+        machine = trainer.Machine(plain)
+        for _ in range(2000):
+            unit, address, value = chance.randrange(4), 4 * chance.choice((0, 1, 128, 129, 256, 511)), chance.randrange(2**32)
+            kind = chance.randrange(5)
+            if kind < 2:
+                machine.store(unit, address, value)
+                plain[address : address + 4] = value.to_bytes(4, "big")
+            elif kind < 4:
+                self.assertEqual(machine.load(unit, address).value, int.from_bytes(plain[address : address + 4], "big"))
+            else:
+                machine.flush(unit, address // 32)
+            self.assertEqual(machine.peek(address // 32), plain[address // 32 * 32 :][:32])
+
+
+class Tapes(Case):
+    RECORDS = [
+        (trainer.Load(3, 584), "00 03 C8 04"),
+        (trainer.Store(2, 72, 300), "01 02 48 AC 02"),
+        (trainer.Flush(1, 63), "02 01 3F"),
+        (Order(3, Command.MODIFIED_READ, 5, True), "03 03 01 05 01"),
+        (trainer.Answer(7, 6, 5, 128), "04 07 06 05 80 01"),
+        (trainer.Register(1, 2, 3, True, 2**32 - 1, 7), "05 01 02 03 01 FF FF FF FF 0F 07"),
+        (trainer.Loaded(2, 127), "06 02 7F"),
+    ]
+
+    def test_each_kind_both_ways(self):
+        for record, text in self.RECORDS:
+            tape = bytes.fromhex(text)
+            self.assertEqual(trainer.write_record(record), tape)
+            reading = trainer.read_record(tape)
+            self.assertEqual(reading, (record, len(tape)))
+            self.assertIs(type(reading.record), type(record))
+        records = [record for record, _ in self.RECORDS]
+        self.assertEqual(list(trainer.read_tape(trainer.write_tape(records))), records)
+
+    def test_refusals(self):
+        cases = [("80 80 80 80 80", 6, "bad number", 0), ("80 80", 5, "cut", 0), ("80 00", 6, "bad number", 0), ("07", 7, "unknown kind", 0)]
+        cases += [("00 00 C8 84 00", 6, "bad number", 2), ("00 00 80 10", 8, "field range", 2), ("04 03 03 00 00", 8, "field range", 2)]
+        for text, number, name, place in cases:
+            self.refused(number, name, trainer.read_record, bytes.fromhex(text), place=place)
+        self.refused(5, "cut", trainer.read_record, b"", 1, place=1)
+        self.assertIsNone(trainer.read_record(b""))
+        self.assertIsNone(trainer.read_record(DRILL, len(DRILL)))
+        records = trainer.read_tape(bytes.fromhex("020102 0204"))
+        self.assertEqual(next(records), trainer.Flush(1, 2))
+        self.refused(8, "field range", next, records, place=4)
+        self.refused(8, "field range", trainer.write_record, trainer.Store(4, 72, 300), 0)
+        self.refused(9, "no room", trainer.write_record, trainer.Store(2, 72, 300), 4)
+        self.refused(8, "field range", trainer.write_record, Order(0, Command.COPYBACK, 0, True))
+        self.refused(8, "field range", trainer.write_record, trainer.Loaded(0, 2**32))
+
+    def test_drill(self):
+        self.assertEqual(trainer.drill(b""), "total 0 calls 0 orders\n")
+        self.assertEqual(trainer.drill(DRILL[:4]), "store 0 72 9 orders 1\ntotal 1 calls 1 orders\n")
+        self.assertEqual(trainer.drill(bytes.fromhex("8080")), "refused 5 at 0\n")
+        self.assertEqual(trainer.drill(bytes(65537)), "refused 9 at 65536\n")
+        lines = trainer.drill(bytes.fromhex("01030001") * 16384).splitlines()
+        self.assertEqual((len(lines), lines[0], lines[-1]), (16385, "store 3 0 1 orders 1", "total 16384 calls 1 orders"))
+
+
+class Bus(Case):
+    def test_values_of_document_01(self):
+        self.assertEqual((trainer.parity(0), trainer.parity(1 << 56)), (255, 254))
+        self.assertEqual(trainer.check(1, 255), (128, 1))
+        self.refused(8, "field range", trainer.check, 0, 256)
+        self.assertEqual([trainer.lanes(3, 6), trainer.lanes(0, 7), trainer.lanes(1, 7)], [(2, 0x03F8), (1, 0xFF), (2, 0x01FE)])
+        self.refused(8, "field range", trainer.lanes, 0, 8)
+        self.assertEqual(trainer.plan(1, 1), (True, False, False, False))
+        self.assertEqual(trainer.plan(1, 1, locked=True), (True, False, False, True))
+        self.assertEqual([trainer.plan(3, n)[:3] for n in (1, 2, 3)], [(True, True, True), (False, True, False), (False, False, False)])
+        for n, cycle in ((0, 0), (65, 1), (3, 0), (3, 4)):
+            self.refused(8, "field range", trainer.plan, n, cycle)
+
+    def test_answer_codes(self):
+        carrying = {63: ("RESERVED_NO_ERROR", 63), 64: ("USER_NO_ERROR", 0), 127: ("USER_NO_ERROR", 63), 191: ("RESERVED_ERROR", 191), 192: ("USER_ERROR", 0)}
+        for code, (name, carried) in {**carrying, 1: ("NO_ERROR_LOCK", 0), 128: ("HARDWARE_ERROR", 0)}.items():
+            found = trainer.classify(code)
+            self.assertEqual((found.kind.name, found.carried, found.error), (name, carried, code >= 128))
+        for code in range(256):
+            self.assertEqual(trainer.answer_code(*trainer.classify(code)[:2]), code)
+        self.refused(8, "field range", trainer.classify, 256)
+        self.refused(8, "field range", trainer.answer_code, trainer.AnswerClass.RESERVED_ERROR, 130)
+        self.refused(8, "field range", trainer.answer_code, 9)
+
+    def test_handler(self):
+        handler = trainer.Handler()
+        self.assertEqual(handler.state, HandlerState(7, 7, None))
+        self.assertEqual(handler.arbitrate(low=(0, 7)), Grant(0, False))
+        locked = trainer.Handler(handler.state)
+        self.assertEqual(handler.arbitrate(low=0x81), Grant(7, False))
+        self.assertEqual(locked.arbitrate(low=(0, 7), lck=True), Grant(0, False))
+        self.assertEqual(locked.state, HandlerState(7, 0, 0))
+        self.assertEqual(locked.arbitrate(high=(5,), low=(7,), lck=True), Grant(5, True))
+        self.assertIsNone(locked.arbitrate(low=(7,), lck=True))
+        self.assertEqual(locked.state, HandlerState(5, 0, 0))
+        self.refused(10, "bad state", locked.arbitrate, (8,))
+        for state in (HandlerState(8, 0, None), HandlerState(0, 8, None), HandlerState(0, 0, 8)):
+            self.refused(10, "bad state", trainer.Handler(state).arbitrate, (), (1,), True)
+
+
+class Messages(Case):
+    def test_a_message_comes_together_again(self):
+        message = bytes(n % 253 for n in range(600))
+        operations = trainer.divide(message, 7, 255)
+        self.assertEqual([(o.sequence, len(o.data)) for o in operations], [(Sequence.FIRST, 256), (Sequence.MIDDLE, 256), (Sequence.LAST, 88)])
+        receiver = trainer.Receiver()
+        self.assertIsNone(receiver.receive(operations[0]))
+        self.assertEqual(receiver.pending, (7, 255, message[:256]))
+        self.refused(12, "out of turn", receiver.receive, operations[0])
+        self.refused(11, "other source", receiver.receive, operations[1]._replace(aid=254))
+        self.assertIsNone(receiver.receive(operations[1]))
+        self.assertEqual(receiver.receive(operations[2]), (7, 255, message))
+        self.assertIsNone(receiver.pending)
+        self.assertEqual(receiver.receive(*trainer.divide(b"x", 0, 0)), (0, 0, b"x"))
+
+    def test_refusals(self):
+        self.refused(8, "field range", trainer.divide, b"", 0, 0)
+        self.refused(8, "field range", trainer.divide, bytes(4097), 8, 0)
+        self.refused(9, "no room", trainer.divide, bytes(4097), 7, 255)
+        self.refused(8, "field range", trainer.Receiver().receive, trainer.Operation(Sequence.SINGLE, 0, 0, bytes(257)))
+        self.refused(12, "out of turn", trainer.Receiver().receive, trainer.Operation(Sequence.LAST, 0, 0, b"x"))
+
+
+class Interrupts(Case):
+    def test_document_02s_example_both_ways(self):
+        half = 0x0000A03E00000000
+        self.assertEqual(trainer.write_interrupt(3, 28), (half, half))
+        self.assertEqual(trainer.read_interrupt(half, half), (3, 28, Device.BRIDGE_0))
+        for agent, device in enumerate([0] * 4 + [1, 1, 2, 2, 1, 1, 1, 1, 3, 3, 4, 4]):
+            self.assertEqual(trainer.read_interrupt(*trainer.write_interrupt(31, agent)), (31, agent, Device(device)))
+        self.refused(17, "halves differ", trainer.read_interrupt, half, half + 1)
+        self.refused(7, "unknown kind", trainer.read_interrupt, 1, 1)
+        self.refused(8, "field range", trainer.read_interrupt, half + 1, half + 1)
+        self.refused(8, "field range", trainer.write_interrupt, 32, 0)
+
+
+if __name__ == "__main__":
+    unittest.main()
