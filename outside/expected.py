@@ -158,8 +158,7 @@ I, SU, EM = range(3)
 class Machine:
     def __init__(self, slots, memory, cache):
         """Slots are a map from (unit, slot) to [state, block]."""
-        self.slots = {(u, s): [I, 0] for u in range(4) for s in range(16)}
-        self.slots.update(slots)
+        self.slots = {**{(u, s): [I, 0] for u in range(4) for s in range(16)}, **slots}
         self.memory, self.cache, self.orders = memory, cache, []
 
     def broken(self):
@@ -171,6 +170,9 @@ class Machine:
             return state <= EM and block <= 63 and block % 16 == s and alone
 
         return not all(rule(u, s) for u, s in self.slots)
+
+    def directory(self):
+        return sum((list(self.slots[n // 16, n % 16]) for n in range(64)), [])
 
     def refusal(self, tests, unit, address, block):
         faults = {
@@ -252,32 +254,42 @@ def changes(before, after):
     return text
 
 
-def machine(kind, unit, target, value, memory_size, cache_size, *triples):
-    """0 load, 1 store, 2 flush, 3 cold start, 4 peek, on these slots: number, state, block."""
-    slots = {(n // 16, n % 16): [state, block] for n, state, block in zip(triples[::3], triples[1::3], triples[2::3])}
-    m = Machine(slots, filled(0, memory_size), filled(128, cache_size))
-    if kind == 4:
-        refusal = m.refusal([1, 2, 4], 0, None, target)
-        owners = [] if refusal else [u for u in range(4) if m.held(u, target) == EM]
-        place = [1, 512 * owners[0] + 32 * (target % 16)] if owners else [0, 32 * target]
-        return [refusal] + ([0, 0] if refusal else place)
-    if kind == 3:
-        refusal = m.refusal([1], 0, 0, 0)
-        m.slots = {slot: [I, 0] for slot in m.slots}
-        if not refusal:
-            m.cache = [0] * 2048
-        given = [0] * 18
-    else:
-        refusal = m.refusal([1, 2, 3, 4], unit, None if kind == 2 else target, target)
-        given = [0] * 18
-        if not refusal:
-            given[0] = [lambda: m.load(unit, target), lambda: m.store(unit, target, value), lambda: m.flush(unit, target)][kind]()
-            given[1 : 2 + 4 * len(m.orders)] = [len(m.orders)] + sum(m.orders, [])
-    directory = sum((m.slots[n // 16, n % 16] for n in range(64)), [])
-    text = " directory" + changes([0] * 128, directory)
-    text += " memory" + changes(filled(0, memory_size), m.memory)
-    text += " cache" + changes(filled(128, cache_size), m.cache)
-    return [refusal] + given, text
+def machine_of(memory_size, cache_size, pairs):
+    """A machine whose directory has these bytes, place and byte of each: slot n = 16 u + s has its state at 2 n and its block behind it."""
+    directory = [0] * 128
+    for place, byte in zip(pairs[::2], pairs[1::2]):
+        directory[place] = byte
+    slots = {(n // 16, n % 16): directory[2 * n : 2 * n + 2] for n in range(64)}
+    return Machine(slots, filled(0, memory_size), filled(128, cache_size))
+
+
+def machine(memory_size, cache_size, target, call, unit, value, *pairs):
+    """0 load, 1 store, 2 flush."""
+    m = machine_of(memory_size, cache_size, pairs)
+    refusal, given = m.refusal([1, 2, 3, 4], unit, None if call == 2 else target, target), [0] * 18
+    if not refusal:
+        given[0] = [lambda: m.load(unit, target), lambda: m.store(unit, target, value), lambda: m.flush(unit, target)][call]()
+        given[1 : 2 + 4 * len(m.orders)] = [len(m.orders)] + sum(m.orders, [])
+    lent = [([0] * 128, m.directory()), (filled(0, memory_size), m.memory), (filled(128, cache_size), m.cache)]
+    return [refusal] + given, "".join(";" + changes(before, after) for before, after in lent)
+
+
+def newest(memory_size, cache_size, block, *rest):
+    """The store (0 memory, 1 cache store) and the place in it of the newest bytes of a block."""
+    m = machine_of(memory_size, cache_size, rest[3:])
+    refusal = m.refusal([1, 2, 4], 0, None, block)
+    if refusal:
+        return [refusal, 0, 0]
+    owners = [u for u in range(4) if m.held(u, block) == EM]
+    return [0, 1, 512 * owners[0] + 32 * (block % 16)] if owners else [0, 0, 32 * block]
+
+
+def start(memory_size, cache_size, *rest):
+    """A cold start tests 1 alone; refused, its directory is all invalid."""
+    m = machine_of(memory_size, cache_size, rest[4:])
+    refusal = m.refusal([1], 0, 0, 0)
+    after = m.cache if refusal else [0] * 2048
+    return [refusal], ";;" + changes(filled(128, cache_size), after)
 
 
 def drill(room, *tape):
@@ -299,7 +311,7 @@ def drill(room, *tape):
     return ([0, len(text)], "\n" + text) if len(text) <= room else ([9, 0], "\n")
 
 
-CALLS = {"p": parity, "l": lanes, "t": transfer, "a": answer, "c": class_, "h": handler, "r": reading, "w": writing, "m": machine, "d": drill}
+CALLS = {"p": parity, "l": lanes, "t": transfer, "a": answer, "c": class_, "h": handler, "r": reading, "w": writing, "m": machine, "n": newest, "s": start, "d": drill}
 
 for row in sys.stdin.read().splitlines():
     if row == "" or row[0] == '"':

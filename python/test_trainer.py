@@ -60,7 +60,7 @@ class Machines(Case):
 
     def test_a_list_of_calls_against_plain_memory(self):
         chance = random.Random(1)
-        plain = bytearray(chance.randbytes(2048))
+        plain = bytearray(chance.randrange(256) for _ in range(2048))
         machine = trainer.Machine(plain)
         for _ in range(2000):
             unit, address, value = chance.randrange(4), 4 * chance.choice((0, 1, 128, 129, 256, 511)), chance.randrange(2**32)

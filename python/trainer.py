@@ -446,8 +446,8 @@ class Handler:
         self._state = (_U32 * 3)()
         _do("handler", self._state)
         if state is not None:
-            # The library's number for no owner is no unit's, so that a given owner of that number is another one above 7.
-            owner = _NO_OWNER if state.owner is None else max(state.owner, _NO_OWNER + 1) if state.owner > 7 else state.owner
+            # 8 stands for no owner below, so that a given owner of 8 becomes another number above 7, which is refused just so.
+            owner = _NO_OWNER if state.owner is None else 9 if state.owner == _NO_OWNER else state.owner
             for place, number in enumerate((state.last_high, state.last_low, owner)):
                 if not 0 <= number < 1 << 32:
                     raise OverflowError(f"{number} is no number of 32 bits")

@@ -5,7 +5,7 @@ use mathlib.Core.List.{List}
 use lib.ListN.{length}
 use lib.Dec.{eqb}
 use Rattle.order.specs.Refusal.{accepted}
-use Rattle.drill_text.specs.Drill.{drillText, drilledIn}
+use Rattle.drill_format.specs.Drill.{drillText, drilledIn}
 
 -- how many bytes of the text's space the output takes; a refusal leaves the number w
 unfoldable pub drillWritten : List ℕ → List ℕ → ℕ → ℕ

@@ -3,7 +3,7 @@
 ghost use mathlib.Core.Path.{_≡_};
 ghost use lib.ListN.{length};
 ghost use Rattle.text.specs.Space.{placed};
-ghost use Rattle.drill_text.specs.Drill.{drillText, drilledIn};
+ghost use Rattle.drill_format.specs.Drill.{drillText, drilledIn};
 ghost use Rattle.capi_drill.specs.Drill.{drillWritten};
 
 // What the drill program prints for a tape.

@@ -21,6 +21,7 @@ use Rattle.coherence.specs.Calls.{answer, memoryAfter, cacheAfter, start
 use Rattle.coherence.specs.Peek.{peeked, peekFromCache, peekOffset}
 use Rattle.coherence.specs.Demand3.{ordersIn}
 
+-- the call is not refused
 abbrev pub Accepted : Directory → List ℕ → List ℕ → Call → Type 0
 Accepted d m k c = answer d m k c .refusal ≡ 0
 
@@ -42,7 +43,7 @@ by u k b retried = record { unit = u; command = k; block = b; retried = retried 
 abbrev pub NoneHasEM : Directory → ℕ → Type 0
 NoneHasEM d b = (v : ℕ) → v < 4 → slotAt d (place v b) ≡ Modified b → ⊥
 
--- slot n is EM with no block
+-- slot n is not EM
 abbrev pub NotEM : Directory → ℕ → Type 0
 NotEM d n = (c : ℕ) → slotAt d n ≡ Modified c → ⊥
 

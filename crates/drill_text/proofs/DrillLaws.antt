@@ -18,10 +18,10 @@ use Rattle.coherence.specs.Refusal.{startRefusal, sizeTest, sized}
 use Rattle.coherence.specs.Calls.{startAnswer, cacheStarted, answers, answersCold}
 use Rattle.text.specs.Space.{placed}
 use Rattle.text.proofs.SpaceLaws.{placed-room, placed-none}
-use Rattle.drill_text.specs.declared.Drilled.{Drilled}
+use Rattle.drill_format.specs.declared.Drilled.{Drilled}
 use Rattle.reading.specs.Reading.{readAll}
-use Rattle.drill_text.specs.Line.{refusedLine}
-use Rattle.drill_text.specs.Drill.{tapeMost, textMost, zeroStore, callsIn, answersIn, drillText, drilledIn}
+use Rattle.drill_format.specs.Line.{refusedLine}
+use Rattle.drill_format.specs.Drill.{tapeMost, textMost, zeroStore, callsIn, answersIn, drillText, drilledIn}
 use Rattle.drill_text.specs.Writing.{Puts, textFrom}
 
 -- ---- the text

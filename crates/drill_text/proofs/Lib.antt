@@ -5,4 +5,3 @@ pub mod StepLaws
 pub mod RecordLaws
 pub mod Underway
 pub mod DrillLaws
-pub mod Claims

@@ -9,7 +9,7 @@ use Rattle.coherence.specs.Demand3.{ordersIn}
 use Rattle.text.specs.Space.{ascii}
 use Rattle.text.proofs.DecimalLaws.{at-most}
 use Rattle.reading.specs.declared.Access.the-variants.{Asks}
-use Rattle.drill_text.specs.Line.{field, accessPart, ordersPart, callLine}
+use Rattle.drill_format.specs.Line.{field, accessPart, ordersPart, callLine}
 use Rattle.drill_text.specs.Writing.{Short}
 
 pub field-short : (k n : ℕ) → n < 10 ^ suc k → length (field n) ≤ suc (suc k)

@@ -15,8 +15,8 @@ use Rattle.tape_format.specs.declared.Record.{Record}
 use Rattle.reading.specs.declared.Access.the-variants.{Asks, Other}
 use Rattle.drill_text.specs.declared.run.Progress.{Progress}
 use Rattle.reading.specs.Reading.{Ending, andMore, andCalls, callsOf, accessOf}
-use Rattle.drill_text.specs.Line.{accessPart, ordersPart, callLine, lines}
-use Rattle.drill_text.specs.Drill.{lastLine}
+use Rattle.drill_format.specs.Line.{accessPart, ordersPart, callLine, lines}
+use Rattle.drill_format.specs.Drill.{lastLine}
 use Rattle.drill_text.specs.Writing.{Puts, textFrom, Called, Short, Took, lineMost}
 use Rattle.drill_text.proofs.WritingLaws.{both}
 use Rattle.drill_text.proofs.LineLaws.{line-short}

@@ -13,8 +13,8 @@ use Rattle.coherence.specs.Calls.{answers}
 use Rattle.coherence.specs.Demand3.{ordersGiven}
 use Rattle.drill_text.specs.declared.run.Progress.{Progress}
 use Rattle.reading.specs.Reading.{readOn, readFrom, readAll, callsOf}
-use Rattle.drill_text.specs.Line.{lines, totalLine, refusedLine}
-use Rattle.drill_text.specs.Drill.{lastLine}
+use Rattle.drill_format.specs.Line.{lines, totalLine, refusedLine}
+use Rattle.drill_format.specs.Drill.{lastLine}
 use Rattle.drill_text.specs.Writing.{Puts, textFrom, Took}
 use Rattle.drill_text.proofs.WritingLaws.{both}
 use Rattle.drill_text.proofs.StepLaws.{nothing}

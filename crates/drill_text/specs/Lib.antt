@@ -1,5 +1,2 @@
--- What a drill prints, from the bytes of its tape.
-pub mod Line
-pub mod Drill
-pub mod Claims
+-- How the code writes the text.
 pub mod Writing

@@ -14,8 +14,8 @@ use Rattle.reading.specs.declared.Access.{Access}
 use Rattle.reading.specs.declared.Access.the-variants.{Asks, Other}
 use Rattle.drill_text.specs.declared.run.Progress.{Progress}
 use Rattle.reading.specs.Reading.{Reading, andMore, callsOf, accessOf}
-use Rattle.drill_text.specs.Line.{callLine, lines}
-use Rattle.drill_text.specs.Drill.{lastLine}
+use Rattle.drill_format.specs.Line.{callLine, lines}
+use Rattle.drill_format.specs.Drill.{lastLine}
 
 -- the bytes s are put into the space o at the place a, if they have room, which leaves o′; r is the place after them, in any case
 pub record Puts (s o : List ℕ) (a : ℕ) (o′ : List ℕ) (r : ℕ) : Type 0 where

@@ -4,13 +4,14 @@ ghost use Prim.Native.Nat.{_≤_};
 ghost use lib.ListN.{length};
 ghost use Rattle.order.specs.Refusal.{accepted};
 ghost use Rattle.text.specs.Space.{placed};
-ghost use Rattle.drill_text.specs.Drill.{drillText, printed, drilledIn, textMost};
+ghost use Rattle.drill_format.specs.Drill.{drillText, printed, drilledIn, textMost};
 ghost use Rattle.drill_text.specs.Writing.{Puts};
 
 mod line;
 mod run;
 
 use crate::line::put_refused;
+use drill_format::Drilled;
 use machine::cold_start;
 use order::NO_ROOM;
 use order::UNREADABLE;
@@ -20,12 +21,6 @@ use run::run_tape;
 pub const TAPE_MOST: usize = 65536;
 
 pub const TEXT_MOST: usize = 720960;
-
-// `refusal` is 0, or 9 where the lent space is too small; `count` is how many bytes of it the text takes.
-pub struct Drilled {
-    pub refusal: u8,
-    pub count: usize,
-}
 
 // The text of an input put into `out`, if it has room. The answer is how many bytes it has, in any case.
 fn play(failed: bool, tape: &[u8], out: &mut [u8]) -> usize

@@ -2,7 +2,7 @@
 ghost use Prim.Native.Nat.{_+_, _≤_, _<_, _^_};
 ghost use mathlib.Core.List.{_++_};
 ghost use lib.ListN.{length};
-ghost use Rattle.drill_text.specs.Line.{field, accessPart, ordersPart, totalLine, refusedLine};
+ghost use Rattle.drill_format.specs.Line.{field, accessPart, ordersPart, totalLine, refusedLine};
 ghost use Rattle.drill_text.specs.Writing.{Puts};
 use coherence::Call;
 use text::decimal::put_decimal;

@@ -3,7 +3,7 @@ ghost use mathlib.Core.Path.{_≡_};
 ghost use Prim.Native.Nat.{_+_, _≤_, _<_, _^_};
 ghost use lib.ListN.{length};
 ghost use Rattle.reading.specs.Reading.{readAll};
-ghost use Rattle.drill_text.specs.Drill.{tapeMost, textMost};
+ghost use Rattle.drill_format.specs.Drill.{tapeMost, textMost};
 ghost use Rattle.drill_text.specs.Writing.{Puts, Called, Took, textFrom};
 use crate::line::put_access;
 use crate::line::put_orders;

@@ -6,3 +6,4 @@ pub mod RoundTrip
 pub mod RefusedLaws
 pub mod Examples
 pub mod RangeLaws
+pub mod ReaderLaws

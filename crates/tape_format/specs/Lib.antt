@@ -6,3 +6,4 @@ pub mod Write
 pub mod RoundTrip
 pub mod Examples
 pub mod Ranges
+pub mod Reader

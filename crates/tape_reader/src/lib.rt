@@ -3,7 +3,7 @@ use tape::read_record;
 use tape_format::RecordRead;
 ghost use mathlib.Core.Path.{_≡_};
 ghost use Rattle.tape_format.specs.Record.{recordAt};
-ghost use Rattle.tape_reader.specs.Reader.{placeAfter};
+ghost use Rattle.tape_format.specs.Reader.{placeAfter};
 
 pub struct Reader<'a> {
     pub tape: &'a [u8],

@@ -1,10 +1,10 @@
 // Rows of the cache machine.
-use crate::bus::low;
 use crate::text::Row;
 use crate::text::show;
 use crate::text::show_all;
 use crate::text::show_byte;
 use crate::text::word;
+use coherence::Call;
 
 // What stands at a place before a call: in memory the number of the block, in the cache store 128 and the number of the slot; in the directory 0.
 fn filling(base: u8, place: usize) -> u8 {
@@ -14,13 +14,27 @@ fn filling(base: u8, place: usize) -> u8 {
     base + (place / 32 % 65) as u8
 }
 
-fn fill(store: &mut [u8], base: u8) {
-    for i in 0..store.len() {
+fn filled(base: u8) -> [u8; 2049] {
+    let mut store = [0u8; 2049];
+    for i in 0..2049 {
         store[i] = filling(base, i);
     }
+    store
 }
 
-// A run of equal bytes that are not the filling begins with its place and the byte; where such bytes end stands the place after them.
+// The directory's bytes of a row: place and byte of each, from the seventh number on. The first comes last, so that numbers that are not given, 0, change
+// nothing.
+fn directory_of(v: [u64; 48]) -> [u8; 128] {
+    let mut directory = [0u8; 128];
+    for k in 0..21 {
+        let at = 46 - 2 * k;
+        let place = (v[at] % 128) as usize;
+        directory[place] = (v[at + 1] % 256) as u8;
+    }
+    directory
+}
+
+// Where equal bytes that are not the filling begin, their place and the byte; where such bytes end, the place after them.
 fn mark(last: u64, place: usize, found: u8, filling: u8) -> u64 {
     if found == filling {
         if last != 256 {
@@ -39,100 +53,74 @@ fn mark(last: u64, place: usize, found: u8, filling: u8) -> u64 {
 }
 
 fn changed(space: &[u8], base: u8) {
+    word(b";");
     let mut last = 256;
     for i in 0..space.len() {
         last = mark(last, i, space[i], filling(base, i));
     }
 }
 
-// A slot of the directory, if it is given.
-fn put(directory: &mut [u8], slot: u64, state: u64, block: u64, given: bool) {
-    if given {
-        if slot < 64 {
-            let n = slot as usize;
-            if 2 * n + 1 < directory.len() {
-                directory[2 * n] = (state % 256) as u8;
-                directory[2 * n + 1] = (block % 256) as u8;
-            }
-        }
+fn call_of(n: [u32; 48]) -> Call {
+    let unit = crossing::byte(n[4] as u64);
+    match n[3] {
+        0 => Call::Load {
+            unit,
+            address: n[2],
+        },
+        1 => Call::Store {
+            unit,
+            address: n[2],
+            value: n[5],
+        },
+        _ => Call::Flush {
+            unit,
+            block: crossing::byte(n[2] as u64),
+        },
     }
 }
 
-// The slots of a row: number, state and block of each, from the seventh number on.
-fn put_all(directory: &mut [u8], v: [u64; 48], count: usize) {
-    for k in 2..15 {
-        put(
-            directory,
-            v[3 * k],
-            v[3 * k + 1],
-            v[3 * k + 2],
-            3 * k + 2 < count,
-        );
-    }
-}
-
-fn peek<'a>(directory: &'a [u8], memory: &'a [u8], cache: &'a [u8], block: u32) {
-    let mut store = 0u32;
-    let mut offset = 0u32;
-    let refusal = capi_machine::trainer_peek(
-        directory,
-        memory,
-        cache,
-        block,
-        &mut store,
-        &mut offset,
-    );
-    show_all(&[refusal, store, offset]);
-}
-
+// The refusal; if there is none, the directory and the numbers of the answer are put into their places.
 fn access(
     directory: &mut [u8],
     memory: &mut [u8],
     cache: &mut [u8],
-    v: [u64; 48],
     answer: &mut [u32],
-) -> u32 {
-    let unit = low(v[1]);
-    let target = low(v[2]);
-    match v[0] {
-        0 => capi_machine::trainer_load(directory, memory, cache, unit, target, answer),
-        1 => capi_machine::trainer_store(directory, memory, cache, unit, target, low(v[3]), answer),
-        2 => capi_machine::trainer_flush(directory, memory, cache, unit, target, answer),
-        _ => capi_machine::trainer_cold_start(memory, cache, directory),
+    call: Call,
+) -> u8 {
+    let given = machine::run(layout::decode(directory), memory, cache, call);
+    let refusal = given.refusal;
+    if refusal != 0 {
+        return refusal;
     }
+    let left = given.directory;
+    layout::encode(left, directory);
+    layout::put_answer(given, answer);
+    0
 }
 
-// A load (0), store (1), flush (2), cold start (3) or peek (4): the refusal, and the numbers of the answer. Then all that is not as it was filled.
-fn call(
-    directory: &mut [u8],
-    memory: &mut [u8],
-    cache: &mut [u8],
-    answer: &mut [u32],
-    v: [u64; 48],
-) {
-    if v[0] > 3 {
-        return peek(directory, memory, cache, low(v[2]));
-    }
-    let refusal = access(directory, memory, cache, v, answer);
-    show_all(&[refusal]);
-    show_all(answer);
-    word(b" directory");
+fn show_changed<'a>(directory: &'a [u8], memory: &'a [u8], cache: &'a [u8]) {
     changed(directory, 255);
-    word(b" memory");
     changed(memory, 0);
-    word(b" cache");
     changed(cache, 128);
 }
 
-// The call, the unit, the address or block, the value, the sizes of both stores, and the slots that are not invalid.
+// The refusal and the answer; then of the directory, of memory and of the cache store all that is not the filling.
+fn run(directory: &mut [u8], memory: &mut [u8], cache: &mut [u8], answer: &mut [u32], call: Call) {
+    show(access(directory, memory, cache, answer, call) as u64);
+    show_all(answer);
+    show_changed(directory, memory, cache);
+}
+
+// The sizes of both stores, the address or block, the call (0 load, 1 store, 2 flush), the unit, the value, the directory.
 pub(crate) fn machine(given: Row) {
+    let n = given.small;
     let v = given.values;
-    let mut directory = [0u8; 128];
-    let mut memory = [0u8; 2049];
-    let mut cache = [0u8; 2049];
+    let mut directory = directory_of(v);
+    let mut memory = filled(0);
+    let mut cache = filled(128);
     let mut answer = [0u32; 18];
-    let m = v[4] as usize;
-    let c = v[5] as usize;
+    let m = n[0] as usize;
+    let c = n[1] as usize;
     if m <= 2049 {
         if c <= 2049 {
             run(
@@ -140,23 +128,56 @@ pub(crate) fn machine(given: Row) {
                 &mut memory[0..m],
                 &mut cache[0..c],
                 &mut answer,
-                v,
-                given.count,
+                call_of(n),
             );
         }
     }
 }
 
-fn run(
-    directory: &mut [u8],
-    memory: &mut [u8],
-    cache: &mut [u8],
-    answer: &mut [u32],
-    v: [u64; 48],
-    count: usize,
-) {
-    fill(memory, 0);
-    fill(cache, 128);
-    put_all(directory, v, count);
-    call(directory, memory, cache, answer, v);
+// The sizes of both stores, the block, three other numbers, the directory: the store (0 memory, 1 cache store) and the place of the newest bytes.
+pub(crate) fn newest(given: Row) {
+    let n = given.small;
+    let v = given.values;
+    let directory = directory_of(v);
+    let memory = [0u8; 2049];
+    let cache = [0u8; 2049];
+    let m = n[0] as usize;
+    let c = n[1] as usize;
+    let mut store = 0u32;
+    let mut offset = 0u32;
+    if m <= 2049 {
+        if c <= 2049 {
+            let refusal = capi_machine::trainer_peek(
+                &directory,
+                &memory[0..m],
+                &cache[0..c],
+                n[2],
+                &mut store,
+                &mut offset,
+            );
+            show_all(&[refusal, store, offset]);
+        }
+    }
+}
+
+fn cold(directory: &mut [u8], memory: &[u8], cache: &mut [u8]) {
+    show(capi_machine::trainer_cold_start(memory, cache, directory) as u64);
+    changed(directory, 255);
+    changed(cache, 128);
+}
+
+// The sizes of both stores, four other numbers, the directory: what a cold start leaves of the directory, and what it changes in the cache store.
+pub(crate) fn start(given: Row) {
+    let n = given.small;
+    let v = given.values;
+    let mut directory = directory_of(v);
+    let memory = [0u8; 2049];
+    let mut cache = filled(128);
+    let m = n[0] as usize;
+    let c = n[1] as usize;
+    if m <= 2049 {
+        if c <= 2049 {
+            cold(&mut directory, &memory[0..m], &mut cache[0..c]);
+        }
+    }
 }

@@ -20,6 +20,8 @@ fn answer(letter: u8, given: Row) {
         b'h' => bus::handler(given),
         b'w' => tapes::writing(given),
         b'm' => caches::machine(given),
+        b'n' => caches::newest(given),
+        b's' => caches::start(given),
         _ => tapes::reading(letter, given),
     }
 }

@@ -65,13 +65,17 @@ fn write(numbers: &[u64], space: &mut [u8]) {
     show_bytes(space);
 }
 
+fn same(values: [u64; 48]) -> [u64; 48] {
+    values
+}
+
 // The size of a space whose bytes are 238, and the seven numbers of a record.
 pub(crate) fn writing(given: Row) {
     let v = given.values;
+    let numbers = same(v);
     let mut space = [238u8; 48];
     let room = v[0] as usize;
     if room <= 48 {
-        let numbers = [v[1], v[2], v[3], v[4], v[5], v[6], v[7]];
-        write(&numbers, &mut space[0..room]);
+        write(&numbers[1..8], &mut space[0..room]);
     }
 }

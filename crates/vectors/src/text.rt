@@ -1,9 +1,10 @@
 // The numbers of a row, and the numbers and bytes of an answer.
 use libc::STDOUT_FILENO;
 
-// The numbers of a row: the first `count` of `values`. `inside` is true behind a digit.
+// The numbers of a row: the first `count` of `values`, and in `small` what 32 bits hold of them. `inside` is true behind a digit.
 pub(crate) struct Row {
     pub values: [u64; 48],
+    pub small: [u32; 48],
     pub count: usize,
     pub inside: bool,
 }
@@ -17,44 +18,40 @@ fn digit(letter: u8) -> u64 {
     }
 }
 
+// A number with one digit more.
+fn longer(head: u64, digit: u64, hex: bool) -> u64 {
+    if hex {
+        return 16 * (head % 1152921504606846976) + digit % 16;
+    }
+    10 * (head % 1152921504606846976) + digit % 16
+}
+
 // The row with one byte more, of which this is the digit.
 fn step(before: Row, digit: u64, hex: bool) -> Row {
     let mut values = before.values;
+    let mut small = before.small;
     let count = before.count;
+    let limit = if hex { 16 } else { 10 };
     if count >= 47 {
         return before;
     }
-    if digit < 10 {
-        let head = values[count] % 1152921504606846976;
-        values[count] = if hex {
-            16 * head + digit
-        } else {
-            10 * head + digit
-        };
+    if digit < limit {
+        let number = longer(values[count], digit, hex);
+        values[count] = number;
+        small[count] = (number % 4294967296) as u32;
         return Row {
             values,
+            small,
             count,
             inside: true,
         };
     }
-    if digit < 16 {
-        if hex {
-            values[count] = 16 * (values[count] % 1152921504606846976) + digit;
-            return Row {
-                values,
-                count,
-                inside: true,
-            };
-        }
+    Row {
+        values,
+        small,
+        count: if before.inside { count + 1 } else { count },
+        inside: false,
     }
-    if before.inside {
-        return Row {
-            values,
-            count: count + 1,
-            inside: false,
-        };
-    }
-    before
 }
 
 // The numbers of a line: hexadecimal in a row of parities or of bytes, else decimal.
@@ -65,6 +62,7 @@ pub(crate) fn parse(line: &[u8], letter: u8) -> Row {
     };
     let mut found = Row {
         values: [0; 48],
+        small: [0; 48],
         count: 0,
         inside: false,
     };

@@ -1,5 +1,5 @@
 -- `drill_text::drill` meets its contract.
-use Rattle.drill_text.specs.Drill.{printed}
+use Rattle.drill_format.specs.Drill.{printed}
 use borrow.Author.Needs.{needs}
 use Rattle.drill_text.proofs.drill.Statement.{statement}
 use Rattle.drill_text.proofs.drill.Tie as tie

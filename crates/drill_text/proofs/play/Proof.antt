@@ -1,7 +1,7 @@
 -- `drill_text::play` meets its contract.
 use mathlib.Core.Path.{refl}
 use native.Mathlib.Omega.{arith}
-use Rattle.drill_text.specs.Drill.{zeroStore, printed}
+use Rattle.drill_format.specs.Drill.{zeroStore, printed}
 use Rattle.drill_text.proofs.DrillLaws.{long-text, started-cache, started-directory, whole-text}
 use borrow.Author.Needs.{needs}
 use Rattle.drill_text.proofs.play.Statement.{statement}

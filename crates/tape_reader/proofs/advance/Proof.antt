@@ -43,7 +43,7 @@ use denote.Triple.Walked.{says, Stays, stay-none, walkOf, goes-none, Walks, ends
 use denote.Exit.{yes}
 use denote.Triple.Clauses.{ensured, lasts}
 use Rattle.tape_format.specs.Record.{recordAt}
-use Rattle.tape_reader.specs.Reader.{placeAfter}
+use Rattle.tape_format.specs.Reader.{placeAfter}
 use Rattle.tape_reader.specs.declared.Reader.{Reader}
 use Rattle.tape_reader.proofs.Reader as T
 use Rattle.tape_reader.proofs.Reader.Laws as T′

@@ -1,6 +1,6 @@
 -- `tape_reader::place_after` meets its contract.
 use mathlib.Core.Path.{sym, ap, _∙_}
-use Rattle.tape_reader.specs.Reader.{placeAfter}
+use Rattle.tape_format.specs.Reader.{placeAfter}
 use borrow.Author.Needs.{needs}
 use Rattle.tape_reader.proofs.place_after.Statement.{statement}
 use Rattle.tape_reader.proofs.place_after.Tie as tie

@@ -1,7 +1,7 @@
 -- `drill_text::line::put_access` meets its contract.
 use native.Mathlib.Omega.{arith}
 use Rattle.text.specs.Space.{ascii}
-use Rattle.drill_text.specs.Line.{accessPart}
+use Rattle.drill_format.specs.Line.{accessPart}
 use Rattle.drill_text.proofs.WritingLaws.{both}
 use borrow.Author.Needs.{needs}
 use Rattle.drill_text.proofs.line.put_access.Statement.{statement}

@@ -2,7 +2,7 @@
 use native.Mathlib.Omega.{arith}
 use Rattle.text.specs.Space.{ascii}
 use Rattle.text.proofs.DecimalLaws.{at-most-20}
-use Rattle.drill_text.specs.Line.{field}
+use Rattle.drill_format.specs.Line.{field}
 use Rattle.drill_text.proofs.WritingLaws.{both, puts}
 use borrow.Author.Needs.{needs}
 use Rattle.drill_text.proofs.line.put_field.Statement.{statement}

@@ -1,6 +1,6 @@
 -- `drill_text::line::put_orders` meets its contract.
 use Rattle.text.specs.Space.{ascii}
-use Rattle.drill_text.specs.Line.{ordersPart}
+use Rattle.drill_format.specs.Line.{ordersPart}
 use Rattle.drill_text.proofs.WritingLaws.{both}
 use borrow.Author.Needs.{needs}
 use Rattle.drill_text.proofs.line.put_orders.Statement.{statement}

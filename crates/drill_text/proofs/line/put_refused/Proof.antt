@@ -1,6 +1,6 @@
 -- `drill_text::line::put_refused` meets its contract.
 use Rattle.text.specs.Space.{ascii}
-use Rattle.drill_text.specs.Line.{refusedLine}
+use Rattle.drill_format.specs.Line.{refusedLine}
 use borrow.Author.Needs.{needs}
 use Rattle.drill_text.proofs.line.put_refused.Statement.{statement}
 use Rattle.drill_text.proofs.line.put_refused.Tie as tie

@@ -1,6 +1,6 @@
 -- `drill_text::line::put_total` meets its contract.
 use Rattle.text.specs.Space.{ascii}
-use Rattle.drill_text.specs.Line.{totalLine}
+use Rattle.drill_format.specs.Line.{totalLine}
 use borrow.Author.Needs.{needs}
 use Rattle.drill_text.proofs.line.put_total.Statement.{statement}
 use Rattle.drill_text.proofs.line.put_total.Tie as tie

@@ -11,6 +11,12 @@ Inv-loop space base last₀ i₀ i-end last i = i ≤ length space
 abbrev μ-loop : tie.MeasureT-loop
 μ-loop space base last₀ i₀ i-end last i = length space - i
 
+slice-aggregate-word : tie.Need-slice-aggregate-word Inv-loop μ-loop
+slice-aggregate-word c = search needs
+
+word-requires : tie.Need-word-requires Inv-loop μ-loop
+word-requires c κs = search needs
+
 loop-holds : tie.Need-loop-holds Inv-loop μ-loop
 loop-holds c = search needs
 
@@ -41,6 +47,8 @@ changed-spec =
     (tie.spec
     Inv-loop
     μ-loop
+    slice-aggregate-word
+    word-requires
     loop-holds
     shared-slice-read-mark
     filling-requires

@@ -1,2 +1,0 @@
--- A reader's place.
-pub mod Reader
