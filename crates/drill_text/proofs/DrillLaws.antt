@@ -4,7 +4,7 @@ use native.Mathlib.Nat.{zero-add}
 use native.Mathlib.Omega.{arith}
 use mathlib.Core.Path.{_≡_, refl, ap, sym, _∙_}
 use mathlib.Core.Bool.{Bool, true, false}
-use mathlib.Core.List.{List, [], _∷_, _++_}
+use mathlib.Core.List.{List}
 use lib.Dec.{leb}
 use lib.ListN.{length}
 use borrow.Author.Tests.{leb-true, le-leb, lt-leb}
@@ -51,34 +51,30 @@ pub whole-text : (t : List ℕ) (d : Directory) (m k : List ℕ) → length t �
 unfolding textFrom drillText callsIn answersIn
 whole-text t d m k h ed em ek = rw (le-leb (length t) tapeMost h, cold-answers, ed, em, ek, zero-add, zero-add)
 
--- ---- the answer. `l` is the empty part of the space that the first run was given
+-- ---- the answer
 
-no-part : (l o : List ℕ) → length l ≡ 0 → l ++ o ≡ o
-no-part [] o e = refl
-no-part (x ∷ l) o e = absurd (omega arith)
+-- how many bytes a text has, whatever space it was put into
+pub counted : (text o o′ : List ℕ) (r : ℕ) → Puts text o 0 o′ r → r ≡ length text
+counted text o o′ r p = p .next ∙ zero-add (length text)
 
-pub small : (text l o : List ℕ) (n : ℕ) → n ≡ 0 + length text → length l ≡ 0 → length (l ++ o) < n → n ≤ textMost
-    → (_≡_ {A = Drilled} (record { refusal = 9; count = 0 }) (drilledIn text (length o))) × (l ++ o ≡ placed o 0 text) × (textMost ≤ length o → _≡_ {A = ℕ} 9 accepted)
+-- the space is too small for the text's n bytes
+pub small : (text o : List ℕ) (n : ℕ) → n ≡ length text → length o < n → n ≤ textMost
+    → (_≡_ {A = Drilled} (record { refusal = 9; count = 0 }) (drilledIn text (length o))) × (o ≡ placed o 0 text) × (textMost ≤ length o → _≡_ {A = ℕ} 9 accepted)
 unfolding drilledIn
-small text l o n e z h b =
-    let s : l ++ o ≡ o = no-part l o z in
-    let h′ : length o < n = rw s at h in
-    (rw (lt-leb (length text) (length o) (omega arith)), s ∙ sym (placed-none o 0 text (lt-leb (0 + length text) (length o) (omega arith))), λ k. absurd (omega arith))
+small text o n e h b =
+    (rw (lt-leb (length text) (length o) (omega arith)), sym (placed-none o 0 text (lt-leb (0 + length text) (length o) (omega arith))), λ k. absurd (omega arith))
 
-pub large : (text l o o′ : List ℕ) (n r : ℕ) → n ≡ 0 + length text → length l ≡ 0 → n ≤ length (l ++ o) → Puts text (l ++ o) 0 o′ r
+pub large : (text o o′ : List ℕ) (n r : ℕ) → n ≡ length text → n ≤ length o → Puts text o 0 o′ r
     → (_≡_ {A = Drilled} (record { refusal = 0; count = r }) (drilledIn text (length o))) × (o′ ≡ placed o 0 text) × (textMost ≤ length o → _≡_ {A = ℕ} 0 accepted)
 unfolding drilledIn
-large text l o o′ n r e z h p =
-    let s : l ++ o ≡ o = no-part l o z in
-    let h′ : n ≤ length o = rw s at h in
-    let q : Puts text o 0 o′ r = rw s at p in
-    let m : r ≡ length text = q .next ∙ zero-add (length text) in
-    (rw (le-leb (length text) (length o) (omega arith), m), q .bytes (omega arith) ∙ sym (placed-room o 0 text (le-leb (0 + length text) (length o) (omega arith))), λ k. refl)
+large text o o′ n r e h p =
+    let m : r ≡ length text = counted text o o′ r p in
+    (rw (le-leb (length text) (length o) (omega arith), m), p .bytes (omega arith) ∙ sym (placed-room o 0 text (le-leb (0 + length text) (length o) (omega arith))), λ k. refl)
 
 -- one run, where the space suffices for every text
 pub sure : (text o o′ : List ℕ) (r : ℕ) → Puts text o 0 o′ r → r ≤ textMost → textMost ≤ length o
     → (_≡_ {A = Drilled} (record { refusal = 0; count = r }) (drilledIn text (length o))) × (o′ ≡ placed o 0 text) × (textMost ≤ length o → _≡_ {A = ℕ} 0 accepted)
-sure text o o′ r p b h = large text [] o o′ (0 + length text) r refl refl (let e = p .next in omega arith) p
+sure text o o′ r p b h = large text o o′ r r (counted text o o′ r p) (omega arith) p
 
 -- ---- for a caller: the count lies within the space
 

@@ -39,8 +39,27 @@ fn play(failed: bool, tape: &[u8], out: &mut [u8]) -> usize
     run_tape(tape, directory, &mut memory, &mut cache, out)
 }
 
+// How many bytes the text has. It runs the tape by itself: with two callers the loop over the records stays a function of its own; compiled into `play` it
+// would move the directory byte by byte.
+fn text_size(failed: bool, tape: &[u8]) -> usize
+    ensures { λ r. ⌜ (r ≡ length (printed failed (now (tape .entry)))) × (r ≤ textMost) ⌝ }
+{
+    let mut none = [0u8; 1];
+    if failed {
+        return put_refused(&mut none, 0, UNREADABLE, 0);
+    }
+    if TAPE_MOST < tape.len() {
+        return put_refused(&mut none, 0, NO_ROOM, TAPE_MOST);
+    }
+    let mut zeros = [0u8; 2048];
+    let mut slots = [0u8; 2048];
+    let start = cold_start(&zeros, &mut slots);
+    let directory = start.directory;
+    run_tape(tape, directory, &mut zeros, &mut slots, &mut none)
+}
+
 // What the program prints, put at the start of `out`: `tape` was read from its input, and `failed` says that a read failed. Where the space might not
-// suffice, a first run with no space to write counts the bytes.
+// suffice, the bytes are counted first.
 pub fn drill_input(failed: bool, tape: &[u8], out: &mut [u8]) -> Drilled
     ensures { λ r. ⌜ (r ≡ drilledIn (printed failed (now (tape .entry))) (length (now (out .entry)))) × (now (out .exit) ≡ placed (now (out .entry)) 0 (printed failed (now (tape .entry)))) × (textMost ≤ length (now (out .entry)) → r .refusal ≡ accepted) ⌝ }
 {
@@ -48,7 +67,7 @@ pub fn drill_input(failed: bool, tape: &[u8], out: &mut [u8]) -> Drilled
         let count = play(failed, tape, out);
         return Drilled { refusal: 0, count };
     }
-    let size = play(failed, tape, &mut out[0..0]);
+    let size = text_size(failed, tape);
     if out.len() < size {
         return Drilled {
             refusal: NO_ROOM,

@@ -12,7 +12,7 @@ ghost use mathlib.Core.Path.{_≡_};
 ghost use mathlib.Core.List.{_∷_};
 ghost use lib.ListN.{length};
 ghost use Rattle.tape_format.specs.Record.{kindOf, fieldsOf};
-ghost use Rattle.tape.specs.Numbers.{Spells};
+ghost use Rattle.tape.specs.Numbers.{padded};
 ghost use Rattle.tape_format.specs.Write.{writtenOf, spaceAfter};
 
 // The numbers that a record is spelled as: the first `count` of `values`.
@@ -23,7 +23,7 @@ pub struct Numbers {
 
 // The numbers of a record: its kind and its fields, and 0 behind them.
 pub fn numbers_of(item: Record) -> Numbers
-    ensures { λ r. ⌜ Spells (kindOf item ∷ fieldsOf item) (r .count) (r .values) ⌝ }
+    ensures { λ r. ⌜ (r .count ≡ length (kindOf item ∷ fieldsOf item)) × (r .values ≡ padded (kindOf item ∷ fieldsOf item)) ⌝ }
 {
     match item {
         Record::Load(u, a) => Numbers {

@@ -119,19 +119,15 @@ pub(crate) fn machine(given: Row) {
     let mut memory = filled(0);
     let mut cache = filled(128);
     let mut answer = [0u32; 18];
-    let m = n[0] as usize;
-    let c = n[1] as usize;
-    if m <= 2049 {
-        if c <= 2049 {
-            run(
-                &mut directory,
-                &mut memory[0..m],
-                &mut cache[0..c],
-                &mut answer,
-                call_of(n),
-            );
-        }
-    }
+    let m = (n[0] % 2050) as usize;
+    let c = (n[1] % 2050) as usize;
+    run(
+        &mut directory,
+        &mut memory[0..m],
+        &mut cache[0..c],
+        &mut answer,
+        call_of(n),
+    );
 }
 
 // The sizes of both stores, the block, three other numbers, the directory: the store (0 memory, 1 cache store) and the place of the newest bytes.
@@ -141,23 +137,19 @@ pub(crate) fn newest(given: Row) {
     let directory = directory_of(v);
     let memory = [0u8; 2049];
     let cache = [0u8; 2049];
-    let m = n[0] as usize;
-    let c = n[1] as usize;
+    let m = (n[0] % 2050) as usize;
+    let c = (n[1] % 2050) as usize;
     let mut store = 0u32;
     let mut offset = 0u32;
-    if m <= 2049 {
-        if c <= 2049 {
-            let refusal = capi_machine::trainer_peek(
-                &directory,
-                &memory[0..m],
-                &cache[0..c],
-                n[2],
-                &mut store,
-                &mut offset,
-            );
-            show_all(&[refusal, store, offset]);
-        }
-    }
+    let refusal = capi_machine::trainer_peek(
+        &directory,
+        &memory[0..m],
+        &cache[0..c],
+        n[2],
+        &mut store,
+        &mut offset,
+    );
+    show_all(&[refusal, store, offset]);
 }
 
 fn cold(directory: &mut [u8], memory: &[u8], cache: &mut [u8]) {
@@ -173,11 +165,7 @@ pub(crate) fn start(given: Row) {
     let mut directory = directory_of(v);
     let memory = [0u8; 2049];
     let mut cache = filled(128);
-    let m = n[0] as usize;
-    let c = n[1] as usize;
-    if m <= 2049 {
-        if c <= 2049 {
-            cold(&mut directory, &memory[0..m], &mut cache[0..c]);
-        }
-    }
+    let m = (n[0] % 2050) as usize;
+    let c = (n[1] % 2050) as usize;
+    cold(&mut directory, &memory[0..m], &mut cache[0..c]);
 }

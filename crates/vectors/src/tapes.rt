@@ -41,17 +41,14 @@ pub(crate) fn reading(letter: u8, given: Row) {
     let v = given.values;
     let bytes = bytes_of(v);
     let mut text = [0u8; 1024];
-    let count = given.count;
+    let count = given.count % 48;
     let first = v[0] as usize;
+    let room = first % 1025;
     if count >= 1 {
-        if count <= 48 {
-            if letter == b'r' {
-                read(&bytes[1..count], first);
-            } else {
-                if first <= 1024 {
-                    drill(&bytes[1..count], &mut text[0..first]);
-                }
-            }
+        if letter == b'r' {
+            read(&bytes[1..count], first);
+        } else {
+            drill(&bytes[1..count], &mut text[0..room]);
         }
     }
 }
@@ -74,8 +71,6 @@ pub(crate) fn writing(given: Row) {
     let v = given.values;
     let numbers = same(v);
     let mut space = [238u8; 48];
-    let room = v[0] as usize;
-    if room <= 48 {
-        write(&numbers[1..8], &mut space[0..room]);
-    }
+    let room = (v[0] % 49) as usize;
+    write(&numbers[1..8], &mut space[0..room]);
 }

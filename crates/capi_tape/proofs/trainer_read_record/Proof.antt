@@ -1,4 +1,5 @@
 -- `capi_tape::trainer_read_record` meets its contract.
+use Rattle.tape.proofs.NumbersLaws.{numbers-spell}
 use borrow.Author.Needs.{needs}
 use mathlib.Core.Path.{sym, _∙_}
 use Rattle.capi_tape.proofs.EntryLaws.{numbers-put, read-short, read-some, read-end, read-refused}
@@ -21,25 +22,25 @@ numbers-of-requires : tie.Need-numbers-of-requires
 numbers-of-requires c κs = search needs
 
 array-read-put-seven : tie.Need-array-read-put-seven
-array-read-put-seven c = let l = c .before .before .numbers-of .ensures .long in search needs
+array-read-put-seven c = let l = numbers-spell _ _ _ (c .before .before .numbers-of .ensures) .long in search needs
 
 array-read-put-seven-2 : tie.Need-array-read-put-seven-2
-array-read-put-seven-2 c = let l = c .before .before .numbers-of .ensures .long in search needs
+array-read-put-seven-2 c = let l = numbers-spell _ _ _ (c .before .before .numbers-of .ensures) .long in search needs
 
 array-read-put-seven-3 : tie.Need-array-read-put-seven-3
-array-read-put-seven-3 c = let l = c .before .before .numbers-of .ensures .long in search needs
+array-read-put-seven-3 c = let l = numbers-spell _ _ _ (c .before .before .numbers-of .ensures) .long in search needs
 
 array-read-put-seven-4 : tie.Need-array-read-put-seven-4
-array-read-put-seven-4 c = let l = c .before .before .numbers-of .ensures .long in search needs
+array-read-put-seven-4 c = let l = numbers-spell _ _ _ (c .before .before .numbers-of .ensures) .long in search needs
 
 array-read-put-seven-5 : tie.Need-array-read-put-seven-5
-array-read-put-seven-5 c = let l = c .before .before .numbers-of .ensures .long in search needs
+array-read-put-seven-5 c = let l = numbers-spell _ _ _ (c .before .before .numbers-of .ensures) .long in search needs
 
 array-read-put-seven-6 : tie.Need-array-read-put-seven-6
-array-read-put-seven-6 c = let l = c .before .before .numbers-of .ensures .long in search needs
+array-read-put-seven-6 c = let l = numbers-spell _ _ _ (c .before .before .numbers-of .ensures) .long in search needs
 
 array-read-put-seven-7 : tie.Need-array-read-put-seven-7
-array-read-put-seven-7 c = let l = c .before .before .numbers-of .ensures .long in search needs
+array-read-put-seven-7 c = let l = numbers-spell _ _ _ (c .before .before .numbers-of .ensures) .long in search needs
 
 put-seven-requires : tie.Need-put-seven-requires
 put-seven-requires c κs = search needs
@@ -61,7 +62,7 @@ returns-2 c =
     let a = c .before .before .before .before .before .before .before .before .before .before .before .before .before .args in
     let n = c .before .before .before .before .before .numbers-of .ensures in
     read-some (a .tape .now) (a .numbers .now) (a .place) (a .next .now) _ _ _ (c .before .before .before .before .before .before .before .before .before .before .if1 .left) (sym (c .before .before .before .before .before .before .before .before .before .read-record .ensures) ∙ c .before .before .before .before .before .before .before .r .given .1)
-    (c .before .before .put-seven .ensures ∙ numbers-put _ _ (a .numbers .now) (n .long) (n .padding))
+    (c .before .before .put-seven .ensures ∙ numbers-put _ _ (a .numbers .now) (numbers-spell _ _ _ n .long) (n .1))
 
 returns-3 : tie.Need-returns-3
 returns-3 c =

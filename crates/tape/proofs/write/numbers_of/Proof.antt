@@ -101,31 +101,31 @@ cast-t53 c = search needs
 
 returns : tie.Need-returns
 unfolding kindOf fieldsOf padded
-returns c = rw (c .before .item .given .1) (record { few = search needs; long = search needs; same = refl; padding = refl })
+returns c = rw (c .before .item .given .1) (refl, refl)
 
 returns-2 : tie.Need-returns-2
 unfolding kindOf fieldsOf padded
-returns-2 c = rw (c .before .item2 .given .1) (record { few = search needs; long = search needs; same = refl; padding = refl })
+returns-2 c = rw (c .before .item2 .given .1) (refl, refl)
 
 returns-3 : tie.Need-returns-3
 unfolding kindOf fieldsOf padded
-returns-3 c = rw (c .before .item3 .given .1) (record { few = search needs; long = search needs; same = refl; padding = refl })
+returns-3 c = rw (c .before .item3 .given .1) (refl, refl)
 
 returns-4 : tie.Need-returns-4
 unfolding kindOf fieldsOf padded
-returns-4 c = rw (c .before .before .before .before .before .item4 .given .1) (record { few = search needs; long = search needs; same = rw (c .before .before .flag-number .ensures, c .before .before .before .command-number .ensures); padding = rw (c .before .before .flag-number .ensures, c .before .before .before .command-number .ensures) })
+returns-4 c = rw (c .before .before .before .before .before .item4 .given .1) (refl, rw (c .before .before .flag-number .ensures, c .before .before .before .command-number .ensures))
 
 returns-5 : tie.Need-returns-5
 unfolding kindOf fieldsOf padded
-returns-5 c = rw (c .before .item5 .given .1) (record { few = search needs; long = search needs; same = refl; padding = refl })
+returns-5 c = rw (c .before .item5 .given .1) (refl, refl)
 
 returns-6 : tie.Need-returns-6
 unfolding kindOf fieldsOf padded
-returns-6 c = rw (c .before .before .item6 .given .1) (record { few = search needs; long = search needs; same = rw (c .flag-number2 .ensures); padding = rw (c .flag-number2 .ensures) })
+returns-6 c = rw (c .before .before .item6 .given .1) (refl, rw (c .flag-number2 .ensures))
 
 returns-7 : tie.Need-returns-7
 unfolding kindOf fieldsOf padded
-returns-7 c = rw (c .before .item7 .given .1) (record { few = search needs; long = search needs; same = refl; padding = refl })
+returns-7 c = rw (c .before .item7 .given .1) (refl, refl)
 
 pub numbers-of-spec : {M : Type 1} → statement M
 numbers-of-spec =

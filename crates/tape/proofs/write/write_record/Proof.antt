@@ -4,6 +4,7 @@ use native.Mathlib.Omega.{arith}
 use lib.ListN.{length}
 use lib.Seq.{length-take-le}
 use Rattle.tape_format.proofs.WriteLaws.{write-invalid, write-no-room, write-done, space-filled, bytes-of-numbers}
+use Rattle.tape.proofs.NumbersLaws.{numbers-spell}
 use borrow.Author.Needs.{needs}
 use Rattle.tape.proofs.write.write_record.Statement.{statement}
 use Rattle.tape.proofs.write.write_record.Tie as tie
@@ -15,7 +16,7 @@ numbers-of-requires : tie.Need-numbers-of-requires
 numbers-of-requires c κs = search needs
 
 array-share-prefix-values : tie.Need-array-share-prefix-values
-array-share-prefix-values c = omega (arith, c .before .numbers-of .ensures)
+array-share-prefix-values c = omega (arith, numbers-spell _ _ _ (c .before .numbers-of .ensures))
 
 slice-aggregate-write-numbers : tie.Need-slice-aggregate-write-numbers
 slice-aggregate-write-numbers c = sym (length-take-le _ _ (array-share-prefix-values (c .before)))
@@ -32,7 +33,7 @@ returns c =
     let n = w .before .before .before .before in
     let v = sym (n .before .before .valid .ensures) ∙ n .before .if1 .taken in
     let o = n .before .before .before .before .args .out .now in
-    let b = bytes-of-numbers _ _ (n .numbers-of .ensures .same) in
+    let b = bytes-of-numbers _ _ (numbers-spell _ _ _ (n .numbers-of .ensures) .same) in
     (write-no-room _ o _ v (w .write-numbers .ensures .0 ∙ ap length b) (omega (arith, w .write-numbers .kept .1 .0)), space-filled _ o _ _ v b (w .write-numbers .ensures .1))
 
 same-length-2 : tie.Need-same-length-2
@@ -44,7 +45,7 @@ returns-2 c =
     let n = w .before .before .before .before in
     let v = sym (n .before .before .valid .ensures) ∙ n .before .if1 .taken in
     let o = n .before .before .before .before .args .out .now in
-    let b = bytes-of-numbers _ _ (n .numbers-of .ensures .same) in
+    let b = bytes-of-numbers _ _ (numbers-spell _ _ _ (n .numbers-of .ensures) .same) in
     (write-done _ o _ v (w .write-numbers .ensures .0 ∙ ap length b) (omega (arith, w .write-numbers .kept .1 .0)), space-filled _ o _ _ v b (w .write-numbers .ensures .1))
 
 returns-3 : tie.Need-returns-3
