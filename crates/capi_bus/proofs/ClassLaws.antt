@@ -6,13 +6,10 @@ use native.Mathlib.Omega.{arith}
 use lib.Dec.{leb, eqb}
 use Rattle.bus.specs.declared.answer.Class.{Class}
 use Rattle.bus.specs.declared.answer.Class.the-variants.{NoError, NoErrorLock, ReservedNoError, UserNoError, HardwareError, IllegalCommand, BusSequenceError, ReservedError, UserError}
-use Rattle.bus.specs.declared.answer.CodeFound.{CodeFound}
-use Rattle.bus.specs.declared.answer.CodeFound.the-variants.{Code, Refused}
-use Rattle.bus.specs.Answer.{classOf, codeOf}
+use Rattle.bus.specs.Answer.{classOf}
 use Rattle.bus.proofs.AnswerLaws.{code-of-class}
 use Rattle.crossing.proofs.CappedLaws.{caps}
-use Rattle.capi_bus.specs.declared.class.ClassFound.{ClassFound}
-use Rattle.capi_bus.specs.declared.class.ClassFound.the-variants.{Known, Unknown}
+use Rattle.capi_bus.specs.declared.class.ClassFound.the-variants.{Known}
 use Rattle.capi_bus.specs.Class.{classNumber, carriedOf, plainClass, classFrom, codeAsked, Inverse}
 
 back : (k : Class) → carriedOf k ≤ 255 → classFrom (classNumber k) (carriedOf k) ≡ Known k

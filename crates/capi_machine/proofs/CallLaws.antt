@@ -1,13 +1,13 @@
 -- What a call through the C interface answers and leaves, put together from what the machine answers and what is handed over.
 use mathlib.Core.Path.{_≡_, refl, sym, ap, _∙_}
 use mathlib.Core.Bool.{Bool, true, false, cond}
-use mathlib.Core.List.{List, [], _++_, append-nil}
+use mathlib.Core.List.{List, _++_, append-nil}
 use Prim.Native.Nat.{ℕ, _≤_, _<_}
 use native.Mathlib.Omega.{arith}
 use lib.Dec.{leb, eqb}
 use lib.ListN.{length, drop}
 use lib.Seq.{drop-length}
-use borrow.Author.Tests.{le-leb, lt-leb, eqb-true, ne-eqb}
+use borrow.Author.Tests.{le-leb, lt-leb, eqb-true, eq-eqb, ne-eqb}
 use Rattle.coherence.specs.declared.Call.{Call}
 use Rattle.coherence.specs.declared.Answer.{Answer}
 use Rattle.coherence.specs.declared.Directory.{Directory}
@@ -88,7 +88,7 @@ put-answer : (r : Answer) (a : List ℕ) → 18 ≤ length a → r .orders .coun
 unfolding answerPut
 put-answer r a h few = rw (le-leb 18 (length a) h, le-leb (r .orders .count) 4 few)
 
-pub handed-over : (d m k a : List ℕ) (c : Call) (r : Answer) (code : ℕ) (d′ m′ k′ a′ : List ℕ)
+handed-over : (d m k a : List ℕ) (c : Call) (r : Answer) (code : ℕ) (d′ m′ k′ a′ : List ℕ)
     → Answered (decoded d) m k c r m′ k′ → 18 ≤ length a
     → (code ≡ r .refusal)
     × (d′ ≡ cond (eqb (r .refusal) 0) (directoryPut (r .directory) d) d)
@@ -123,6 +123,21 @@ handed-over d m k a c r code d′ m′ k′ a′ s h t = go (eqb (refusal (decod
           cache = rw (l, q) (s .cache ∙ kept d m k c q .1);
           answer = rw (l, q) (rw test at (t .2));
         }
+
+-- an accepted answer, handed over
+pub accepted-over : (d m k a : List ℕ) (c : Call) (r : Answer) (d′ m′ k′ a′ : List ℕ)
+    → Answered (decoded d) m k c r m′ k′ → 18 ≤ length a → r .refusal ≡ 0 → d′ ≡ directoryPut (r .directory) d → a′ ≡ answerPut r a
+    → Left d m k a c 0 d′ m′ k′ a′
+accepted-over d m k a c r d′ m′ k′ a′ s h e p q =
+    let t : eqb (r .refusal) 0 ≡ true = eq-eqb (r .refusal) 0 e in
+    handed-over d m k a c r 0 d′ m′ k′ a′ s h (sym e, rw t p, rw t q)
+
+-- a refused one, of which nothing is
+pub refused-over : (d m k a : List ℕ) (c : Call) (r : Answer) (m′ k′ : List ℕ)
+    → Answered (decoded d) m k c r m′ k′ → 18 ≤ length a → (r .refusal ≡ 0 → ⊥) → Left d m k a c (r .refusal) d m′ k′ a
+refused-over d m k a c r m′ k′ s h e =
+    let t : eqb (r .refusal) 0 ≡ false = ne-eqb (r .refusal) 0 e in
+    handed-over d m k a c r (r .refusal) d m′ k′ a s h (refl, rw t, rw t)
 
 -- ---- a refused call
 

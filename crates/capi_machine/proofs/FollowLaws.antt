@@ -1,20 +1,19 @@
 -- Calls through the C interface follow on each other as the machine's own do.
 use Prim.Native.Nat.{ℕ, _≤_}
 use mathlib.Core.Path.{_≡_, refl, sym, ap, _∙_}
-use mathlib.Core.Bool.{Bool, true, false, cond}
-use mathlib.Core.List.{List, [], _∷_, _++_, map}
+use mathlib.Core.Bool.{Bool, true, false}
+use mathlib.Core.List.{List, [], _∷_, map}
 use native.Mathlib.Omega.{arith}
-use lib.ListN.{length, take, drop, length-append}
+use lib.ListN.{length, drop, length-append}
 use lib.Seq.{take-at}
 use lib.Dec.{leb, eqb}
 use borrow.Author.Tests.{le-leb, eqb-false}
 use Rattle.coherence.specs.declared.Call.{Call}
-use Rattle.coherence.specs.declared.Answer.{Answer}
 use Rattle.coherence.specs.declared.Directory.{Directory}
-use Rattle.coherence.specs.Access.{Run, ready}
+use Rattle.coherence.specs.Access.{ready}
 use Rattle.coherence.specs.Calls.{refusal, answer, memoryAfter, cacheAfter, answers, afterAll}
 use Rattle.coherence.proofs.Counts.{refused}
-use Rattle.layout.specs.Directory.{decoded, encoded}
+use Rattle.layout.specs.Directory.{decoded}
 use Rattle.layout.specs.Answer.{answerNumbers}
 use Rattle.layout.proofs.Inverse.{inverse, length-decoded}
 use Rattle.layout.proofs.AnswerLaws.{length-answer}

@@ -16,7 +16,7 @@ use Rattle.coherence.specs.Peek.{fromCache, newestBlock, newest, peeked, peekFr
 use Rattle.crossing.proofs.CappedLaws.{caps}
 use Rattle.layout.specs.Directory.{decoded}
 use Rattle.capi_machine.specs.Call.{narrowed}
-use Rattle.capi_machine.specs.Place.{peekReturned, storeLeft, offsetLeft, Marked, Marks}
+use Rattle.capi_machine.specs.Place.{peekReturned, storeLeft, offsetLeft, Marks}
 
 third-passes : (a b t : Bool) → _≡_ {A = ℕ} (cond a (cond b (cond t 0 4) 2) 1) 0 → t ≡ true
 third-passes true true true e = refl

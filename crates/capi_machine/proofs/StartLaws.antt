@@ -1,10 +1,9 @@
 -- A cold start through the C interface is the machine's own where there is room, and else nothing.
-use Prim.Native.Nat.{ℕ, _≤_, _<_}
+use Prim.Native.Nat.{ℕ, _≤_}
 use mathlib.Core.Path.{_≡_, refl, ap, _∙_}
 use mathlib.Core.List.{List}
 use lib.ListN.{length, take, drop}
 use lib.Seq.{take-at}
-use lib.Dec.{leb}
 use borrow.Author.Tests.{le-leb, lt-leb}
 use Rattle.coherence.specs.Slots.{coldDirectory}
 use Rattle.coherence.specs.Calls.{startAnswer}

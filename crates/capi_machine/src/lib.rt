@@ -1,11 +1,9 @@
 // The cache machine for programs in other languages: `include/trainer.h` declares these functions. Slices cross as pointer and length, all else as
 // numbers. Each function is total, and a refused call writes nothing but what its contract says.
-mod call;
-
-use call::hand_over;
 use crossing::byte;
 use layout::decode;
 use layout::encode;
+use layout::put_answer;
 use order::NO_ROOM;
 use slots::owner;
 ghost use mathlib.Core.Path.{_≡_};
@@ -47,7 +45,13 @@ pub extern "C" fn trainer_load(
     }
     let d = decode(directory);
     let a = machine::load(d, memory, cache, byte(unit as u64), address);
-    hand_over(a, directory, answer)
+    if a.refusal == 0 {
+        let left = a.directory;
+        encode(left, directory);
+        put_answer(a, answer);
+        return 0;
+    }
+    a.refusal as u32
 }
 
 // Unit stores value at address.
@@ -68,7 +72,13 @@ pub extern "C" fn trainer_store(
     }
     let d = decode(directory);
     let a = machine::store(d, memory, cache, byte(unit as u64), address, value);
-    hand_over(a, directory, answer)
+    if a.refusal == 0 {
+        let left = a.directory;
+        encode(left, directory);
+        put_answer(a, answer);
+        return 0;
+    }
+    a.refusal as u32
 }
 
 // Unit flushes block.
@@ -88,7 +98,13 @@ pub extern "C" fn trainer_flush(
     }
     let d = decode(directory);
     let a = machine::flush(d, memory, cache, byte(unit as u64), byte(block as u64));
-    hand_over(a, directory, answer)
+    if a.refusal == 0 {
+        let left = a.directory;
+        encode(left, directory);
+        put_answer(a, answer);
+        return 0;
+    }
+    a.refusal as u32
 }
 
 // Which store has the newest bytes of block, and where.

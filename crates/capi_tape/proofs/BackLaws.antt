@@ -2,19 +2,16 @@
 use Prim.Native.Nat.{ℕ, _≤_}
 use mathlib.Core.Path.{_≡_, refl}
 use mathlib.Core.Bool.{Bool, true, false}
-use lib.Dec.{leb}
 use borrow.Author.Tests.{le-leb}
 use Rattle.order.specs.declared.Order.{Order}
-use Rattle.order.specs.Command.{commandNumber, commandOf}
+use Rattle.order.specs.Command.{commandNumber}
 use Rattle.order.specs.Flag.{flag}
 use Rattle.order.proofs.CommandLaws.{command-of-number}
-use Rattle.tape_format.specs.declared.Record.{Record}
 use Rattle.tape_format.specs.declared.Record.the-variants as rec
 use Rattle.tape_format.specs.Record.{kindOf, fieldsOf}
 use Rattle.crossing.specs.Capped.{capped}
 use Rattle.crossing.proofs.CappedLaws.{caps}
 use Rattle.tape.specs.Numbers.{padded}
-use Rattle.capi_tape.specs.declared.entry.RecordFound.{RecordFound}
 use Rattle.capi_tape.specs.declared.entry.RecordFound.the-variants as found
 use Rattle.capi_tape.specs.Entry.{recordNumbers, storeFrom, orderWith, orderFrom, answerFrom, registerFrom, loadedFrom, kindFrom, recordFrom, Fits, Back}
 

@@ -2,7 +2,7 @@
 use Prim.Native.Nat.{ℕ, suc, _+_}
 use native.Mathlib.Omega.{arith}
 use mathlib.Core.Path.{_≡_, refl, ap, _∙_}
-use mathlib.Core.Bool.{true, cond}
+use mathlib.Core.Bool.{cond}
 use mathlib.Core.List.{List, [], _∷_, map}
 use lib.Dec.{leb}
 use lib.ListN.{length, length-replicate}
@@ -10,7 +10,7 @@ use borrow.Author.Tests.{eqb-true}
 use Rattle.coherence.specs.declared.Call.{Call}
 use Rattle.coherence.specs.declared.Directory.{Directory}
 use Rattle.coherence.specs.declared.Answer.{Answer}
-use Rattle.coherence.specs.PlainMemory.{plainAccepts, plainReply, plainAfter, plainReplies}
+use Rattle.coherence.specs.PlainMemory.{plainReply, plainAfter, plainReplies}
 use Rattle.coherence.specs.Calls.{answer, memoryAfter, cacheAfter, answers, answersCold, startAnswer}
 use Rattle.coherence.specs.Demand3.{Demand3, Demand3Holds, ordersIn, ordersGiven, reply, Each}
 use Rattle.coherence.proofs.Sessions.{sessions}

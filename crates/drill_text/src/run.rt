@@ -1,5 +1,4 @@
 // The records of a tape run in order on the machine, and the text that comes of it.
-ghost use mathlib.Core.Path.{_≡_};
 ghost use Prim.Native.Nat.{_+_, _≤_, _<_, _^_};
 ghost use lib.ListN.{length};
 ghost use Rattle.reading.specs.Reading.{readAll};

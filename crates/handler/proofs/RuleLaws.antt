@@ -15,12 +15,12 @@ use Rattle.handler.specs.declared.Lock.the-variants.{Free, Owner}
 use Rattle.handler.specs.declared.State.{State}
 use Rattle.handler.specs.declared.Grant.the-variants.{Nobody}
 use Rattle.handler.specs.declared.Arbitration.{Arbitration}
-use Rattle.handler.specs.Handler.{lastUnit, ownerOf, requests, unitGranted, lockNext, locked, distance, moved, granted, nobody, allowed, refused, arbitration, initial}
+use Rattle.handler.specs.Handler.{lastUnit, ownerOf, lockNext, locked, distance, moved, granted, nobody, allowed, refused, arbitration, initial}
 use Rattle.numeric.specs.Bits.{contains}
-use Rattle.handler.specs.Waiting.{Input, Call, answer, calls, each}
-use Rattle.handler.specs.Rule.{FreshState, RefusedKeeps, LockRule, FirstUpward, GrantsFirst, isOwnerLast, OwnerIsLast}
+use Rattle.handler.specs.Waiting.{Input, answer, calls, each}
+use Rattle.handler.specs.Rule.{FreshState, RefusedKeeps, LockRule, GrantsFirst, isOwnerLast, OwnerIsLast}
 use Rattle.handler.proofs.Allowed.{last-allowed, call-state-allowed}
-use Rattle.handler.proofs.StateParts.{owner-of, no-owner, lock-moved}
+use Rattle.handler.proofs.StateParts.{owner-of, no-owner}
 use Rattle.handler.proofs.GrantCases.{Ruling, refusing, granting, nothing-to-grant, ruling}
 use Rattle.handler.proofs.HandlerLaws.{accepted-allowed, lock-first, granted-accepted, granted-asks, granted-nearest}
 

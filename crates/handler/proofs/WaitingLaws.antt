@@ -10,7 +10,7 @@ use Rattle.handler.specs.declared.Class.{Class}
 use Rattle.handler.specs.declared.Class.the-variants.{Low}
 use Rattle.handler.specs.declared.State.{State}
 use Rattle.handler.specs.Handler.{lastUnit, distance, allowed, stateAllowed}
-use Rattle.handler.specs.Waiting.{Input, Call, answer, calls, isAccepted, asks, isGrant, isGrantTo, isUnlocked, isClear, only, each, grantedAmong, Within, Stays, Bounded, BoundedWaiting, EachCallGrants, hasSetsAllowed, RefusedDoNotCount}
+use Rattle.handler.specs.Waiting.{Input, Call, answer, calls, isAccepted, asks, isGrant, isGrantTo, isUnlocked, isClear, only, each, grantedAmong, Within, Stays, BoundedWaiting, EachCallGrants, hasSetsAllowed, RefusedDoNotCount}
 use Rattle.handler.proofs.Lists.{only-passed, only-failed, each-parts}
 use Rattle.handler.proofs.RoundRobin.{distance-small}
 use Rattle.handler.proofs.HandlerLaws.{accepted-allowed, refused-leaves, stays-allowed}

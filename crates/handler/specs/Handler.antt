@@ -1,6 +1,6 @@
 -- The bus handler (document 01, "The bus handler"): the round robin, the lock, the grant, and what is refused.
 -- A set of units is a number in which unit u has weight 2 ^ u.
-use Prim.Native.Nat.{ℕ, zero, suc, _+_, _-_, _/_, _%_, _^_}
+use Prim.Native.Nat.{ℕ, zero, suc, _+_, _-_, _%_, _^_}
 use mathlib.Core.Bool.{Bool, true, false, cond, _&&_}
 use mathlib.Core.Option.{Option, none, some}
 use lib.Dec.{eqb, leb}

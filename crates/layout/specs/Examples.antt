@@ -1,8 +1,7 @@
 -- The bytes of a directory and the numbers of an answer as include/trainer.h tells them, computed; all fields are different.
-use Prim.Native.Nat.{ℕ}
 use mathlib.Core.Path.{_≡_}
 use mathlib.Core.Bool.{true, false}
-use mathlib.Core.List.{List, [], _∷_, _++_}
+use mathlib.Core.List.{[], _∷_, _++_}
 use lib.ListN.{replicate}
 use Rattle.order.specs.declared.Command.the-variants.{ModifiedRead, Copyback}
 use Rattle.coherence.specs.declared.Slot.the-variants.{Shared, Modified}

@@ -1,5 +1,5 @@
 -- The reader's loop: a number underway, and what each way on finds.
-use Prim.Native.Nat.{ℕ, zero, suc, _+_, _*_, _%_, _-_, _≤_, _<_}
+use Prim.Native.Nat.{ℕ, suc, _+_, _*_, _%_, _-_, _≤_, _<_}
 use native.Mathlib.Omega.{arith}
 use native.Mathlib.Nat.{mul-comm, mul-assoc, mul-le-mul-left}
 use mathlib.Core.Path.{_≡_, refl, sym, ap, _∙_}
@@ -7,7 +7,7 @@ use mathlib.Core.List.{List}
 use lib.ListN.{length, getD}
 use Rattle.order.specs.Refusal.{cut, badNumber}
 use Rattle.number.specs.declared.NumberRead.the-variants.{Number, Refused}
-use Rattle.number.specs.Number.{groups, last, Value, Bad, limitOf, carried, readGroups, refusing, numberAt}
+use Rattle.number.specs.Number.{groups, last, Bad, limitOf, carried, readGroups, refusing, numberAt}
 use Rattle.number.proofs.GroupLaws.{step-cut, step-ends, step-more, onto, onto-one, onto-value, onto-zero, onto-carried, top, top-above, limit-top, below-top}
 
 -- the number at `at`, underway at p: the groups before it mean v, the one at p counts w, and `left` more could follow it

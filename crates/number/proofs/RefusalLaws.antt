@@ -1,5 +1,5 @@
 -- A number is refused exactly where a byte breaks its spelling, or the tape ends before any does.
-use Prim.Native.Nat.{ℕ, zero, suc, _+_, _-_, _*_, _%_, _≤_, _<_}
+use Prim.Native.Nat.{ℕ, zero, suc, _+_, _-_, _≤_, _<_}
 use native.Mathlib.Nat.{zero-add, add-zero, suc-add}
 use native.Mathlib.Omega.{arith}
 use mathlib.Core.Path.{_≡_, refl, sym, ap, _∙_}
@@ -8,7 +8,7 @@ use mathlib.Core.List.{List, [], _∷_}
 use mathlib.Core.Bool.{Bool, true, false, cond}
 use lib.ListN.{length, getD}
 use lib.Dec.{ltb, leb}
-use borrow.Author.Tests.{ltb-true, ltb-false, leb-true, leb-false}
+use borrow.Author.Tests.{ltb-true, ltb-false, leb-false}
 use Rattle.number.specs.declared.NumberRead.the-variants.{Refused}
 use Rattle.number.specs.Number.{groups, last, Groups, Value, Cut, Bad, limitOf, carried, readGroups, refusing, numberAt, numberTold}
 use Rattle.number.specs.Spelling.{GoesOn, Breaks, EndsAfter, toldAt, RefusesExactly}

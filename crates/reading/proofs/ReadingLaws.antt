@@ -3,11 +3,9 @@ use Prim.Native.Nat.{ℕ, zero, suc, _+_, _-_, _≤_, _<_}
 use native.Mathlib.Nat.{zero-add, suc-add}
 use native.Mathlib.Omega.{arith}
 use mathlib.Core.Path.{_≡_, refl, ap, sym, _∙_}
-use mathlib.Core.Bool.{true}
-use mathlib.Core.List.{List, [], _∷_, map}
+use mathlib.Core.List.{List, [], _∷_}
 use lib.ListN.{length}
 use Rattle.coherence.specs.declared.Call.{Call}
-use Rattle.coherence.specs.PlainMemory.{plainAccepts}
 use Rattle.tape_format.specs.declared.Record.{Record}
 use Rattle.tape_format.specs.declared.RecordRead.{RecordRead}
 use Rattle.tape_format.specs.declared.RecordRead.the-variants as read
@@ -15,7 +13,7 @@ use Rattle.tape_format.specs.Record.{recordAt}
 use Rattle.tape_format.specs.RoundTrip.{ReadsAs}
 use Rattle.reading.specs.declared.Access.{Access}
 use Rattle.reading.specs.declared.Access.the-variants.{Asks, Other}
-use Rattle.reading.specs.Reading.{Started, Ending, finished, andMore, readOn, readFrom, readAll, accessOf, andCalls, callsOf}
+use Rattle.reading.specs.Reading.{Started, finished, andMore, readOn, readFrom, readAll, accessOf, andCalls, callsOf}
 use Rattle.reading.specs.Claims.{ReadsTo, items, AllAccepted, Claims}
 use Rattle.reading.proofs.RecordLaws.{Accepted, record-place, record-accepted}
 

@@ -1,7 +1,7 @@
 -- The numbers of a record in an array of seven: no more than seven, and the first of the array.
 use Prim.Native.Nat.{ℕ, _≤_}
 use native.Mathlib.Omega.{arith}
-use mathlib.Core.Path.{_≡_, refl}
+use mathlib.Core.Path.{_≡_}
 use mathlib.Core.List.{List, _∷_}
 use lib.ListN.{length, take}
 use Rattle.tape_format.specs.declared.Record.{Record}

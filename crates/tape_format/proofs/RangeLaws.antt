@@ -1,7 +1,7 @@
 -- Writing and reading keep to the table's ranges exactly: a record is valid if and only if it is in range.
-use Prim.Native.Nat.{ℕ, _/_, _%_, _≤_, _<_}
+use Prim.Native.Nat.{ℕ, _/_, _%_, _≤_}
 use native.Mathlib.Omega.{arith}
-use mathlib.Core.Path.{_≡_, refl, sym, _∙_}
+use mathlib.Core.Path.{_≡_, refl, sym}
 use mathlib.Core.Logic.{_⊎_, _≢_, inl, inr, ⊎-elim}
 use mathlib.Core.List.{List}
 use mathlib.Core.Option.{Option·elim}
@@ -19,7 +19,7 @@ use Rattle.tape_format.specs.declared.Record.{Record}
 use Rattle.tape_format.specs.declared.Record.the-variants as rec
 use Rattle.tape_format.specs.declared.Rule.the-variants.{Unit, Address, Word, Block, Retried, From, To, Byte, Flag, Bct}
 use Rattle.tape_format.specs.Field.{retriedMost, allowed}
-use Rattle.tape_format.specs.Record.{load, store, flush, order, answer, register, loaded, layoutOf, recordAt, recordTold, kindOf, fieldsOf, fits, fitsCommand}
+use Rattle.tape_format.specs.Record.{load, store, flush, order, answer, register, loaded, layoutOf, recordTold, kindOf, fieldsOf, fits, fitsCommand}
 use Rattle.tape_format.specs.Write.{valid, bytesOf, writtenOf, writtenRefusal, writtenCount, spaceAfter}
 use Rattle.tape_format.specs.Ranges.{IsAddress, IsWord, Retries, Ends, InRange, Answers, WritesExactly, ReadsExactly, RangesHold}
 use Rattle.tape_format.proofs.FieldLaws.{both-true, allowed-most}

@@ -1,6 +1,6 @@
 -- A reader moves by the bytes of the record that it read, or stays.
 use Prim.Native.Nat.{ℕ}
-use mathlib.Core.Path.{_≡_, refl, sym, _∙_}
+use mathlib.Core.Path.{_≡_, refl}
 use mathlib.Core.List.{List}
 use Rattle.tape_format.specs.declared.Record.{Record}
 use Rattle.tape_format.specs.declared.RecordRead.{RecordRead}

@@ -1,6 +1,6 @@
 -- Laws of writing: which records are valid, kind by kind, and the answer and the space by what the tests found.
 use Prim.Native.Nat.{ℕ, _≤_, _<_}
-use mathlib.Core.Path.{_≡_, refl, ap, _∙_}
+use mathlib.Core.Path.{_≡_, refl, ap}
 use mathlib.Core.List.{List, _∷_}
 use mathlib.Core.Option.{Option·elim}
 use mathlib.Core.Bool.{Bool, true, false, _&&_}

@@ -1,18 +1,13 @@
 -- P1 to P12 hold: each by computing the definitions.
-use Prim.Native.Nat.{ℕ, _+_, _%_}
-use mathlib.Core.Path.{_≡_, refl}
-use mathlib.Core.Bool.{true, false}
-use mathlib.Core.List.{List, [], _∷_, map}
+use mathlib.Core.Path.{refl}
 use mathlib.Core.Option.{Option·elim}
-use lib.ListN.{replicate}
 use Rattle.numeric.specs.Range.{within}
 use Rattle.numeric.specs.Bits.{sumBelow, bitAt, onesBelow, fromBits, contains}
 use Rattle.bus.specs.Parity.{byteAt, parityBit, parityOf}
 use Rattle.bus.specs.Lanes.{carriedAt, positionsOf, wordsOf, lanesOf}
 use Rattle.bus.specs.Transfer.{etAtRequest, planOf}
-use Rattle.bus.specs.declared.answer.CodeFound.the-variants.{Code}
 use Rattle.bus.specs.Answer.{classOf, codeNumber, inRow, codeOf, isError}
-use Rattle.number.specs.Number.{groups, last, limitOf, carried, readGroups, refusing, numberAt, spellGroups, spell, spellAll, filled}
+use Rattle.number.specs.Number.{limitOf, carried, readGroups, refusing, numberAt, spellGroups, spell, spellAll, filled}
 use Rattle.tape_format.specs.Field.{allowed, ruled, fieldAt}
 use Rattle.tape_format.specs.Record.{store, layoutOf, andThen, fieldsAt, kindAt, recordAt, recordTold, kindOf, fieldsOf, fits}
 use Rattle.tape_format.specs.Write.{valid, bytesOf, writtenOf, writtenRefusal, writtenCount, spaceAfter}

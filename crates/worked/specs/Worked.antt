@@ -10,7 +10,6 @@ use Rattle.bus.specs.Lanes.{lanesOf}
 use Rattle.bus.specs.Transfer.{planOf}
 use Rattle.bus.specs.declared.answer.Class.{Class}
 use Rattle.bus.specs.declared.answer.Class.the-variants.{ReservedNoError, UserNoError, HardwareError, ReservedError, UserError}
-use Rattle.bus.specs.declared.answer.CodeFound.{CodeFound}
 use Rattle.bus.specs.declared.answer.CodeFound.the-variants.{Code}
 use Rattle.bus.specs.Answer.{classOf, codeOf, isError}
 use Rattle.tape_format.specs.declared.Record.the-variants as tape

@@ -1,5 +1,4 @@
 -- `capi_bus::level` meets its contract.
-use borrow.Author.Needs.{needs}
 use Rattle.order.specs.Flag.{flag}
 use Rattle.capi_bus.proofs.level.Statement.{statement}
 use Rattle.capi_bus.proofs.level.Tie as tie

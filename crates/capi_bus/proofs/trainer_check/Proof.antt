@@ -1,8 +1,6 @@
 -- `capi_bus::trainer_check` meets its contract.
 use borrow.Author.Needs.{needs}
-use mathlib.Core.Path.{_≡_, ap}
-use mathlib.Core.Bool.{true, false}
-use lib.Dec.{leb}
+use mathlib.Core.Path.{ap}
 use borrow.Author.Tests.{le-leb, lt-leb}
 use Rattle.bus.specs.declared.parity.Checked.{Checked}
 use Rattle.capi_bus.specs.Bus.{left, most}

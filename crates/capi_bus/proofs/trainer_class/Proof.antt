@@ -1,6 +1,5 @@
 -- `capi_bus::trainer_class` meets its contract.
 use borrow.Author.Needs.{needs}
-use mathlib.Core.Path.{_≡_, ap}
 use borrow.Author.Tests.{le-leb, lt-leb}
 use Rattle.capi_bus.specs.Bus.{left, most}
 use Rattle.capi_bus.proofs.trainer_class.Statement.{statement}

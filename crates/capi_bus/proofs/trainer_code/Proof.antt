@@ -1,8 +1,8 @@
 -- `capi_bus::trainer_code` meets its contract.
 use borrow.Author.Needs.{needs}
-use mathlib.Core.Path.{_≡_, sym, ap, _∙_}
-use Rattle.capi_bus.specs.Class.{classFrom, codeAsked, codeLeft}
-use Rattle.bus.specs.Answer.{codeOf, refusalOf}
+use mathlib.Core.Path.{sym, ap, _∙_}
+use Rattle.capi_bus.specs.Class.{codeAsked, codeLeft}
+use Rattle.bus.specs.Answer.{refusalOf}
 use Rattle.capi_bus.proofs.trainer_code.Statement.{statement}
 use Rattle.capi_bus.proofs.trainer_code.Tie as tie
 

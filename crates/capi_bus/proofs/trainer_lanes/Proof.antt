@@ -1,6 +1,6 @@
 -- `capi_bus::trainer_lanes` meets its contract.
 use borrow.Author.Needs.{needs}
-use mathlib.Core.Path.{_≡_, ap, sym, _∙_}
+use mathlib.Core.Path.{ap, sym, _∙_}
 use Rattle.bus.specs.declared.lanes.ByteLanes.{ByteLanes}
 use Rattle.capi_bus.proofs.BusLaws.{refused-left, accepted-left}
 use Rattle.capi_bus.proofs.trainer_lanes.Statement.{statement}

@@ -1,6 +1,6 @@
 -- `capi_bus::trainer_plan` meets its contract.
 use borrow.Author.Needs.{needs}
-use mathlib.Core.Path.{_≡_, sym, ap, _∙_}
+use mathlib.Core.Path.{sym, ap, _∙_}
 use borrow.Author.Tests.{lt-leb}
 use Rattle.order.specs.Flag.{flag}
 use Rattle.bus.specs.declared.transfer.SignalPlan.{SignalPlan}

@@ -1,7 +1,7 @@
 -- `capi_drill::trainer_drill` meets its contract.
 use borrow.Author.Needs.{needs}
 use borrow.Author.Tests.{eq-eqb, ne-eqb}
-use mathlib.Core.Path.{_≡_, sym, ap, _∙_}
+use mathlib.Core.Path.{sym, ap, _∙_}
 use Rattle.drill_format.specs.declared.Drilled.{Drilled}
 use Rattle.capi_drill.specs.Drill.{drillWritten}
 use Rattle.capi_drill.proofs.trainer_drill.Statement.{statement}

@@ -1,7 +1,6 @@
 -- `capi_handler::trainer_arbitrate` meets its contract.
 use borrow.Author.Needs.{needs}
-use mathlib.Core.Path.{_≡_, sym, ap, _∙_}
-use Rattle.handler.specs.declared.Arbitration.{Arbitration}
+use mathlib.Core.Path.{_≡_}
 use Rattle.capi_handler.proofs.ArbitrateLaws.{no-room, no-level, refused, handed-over}
 use Rattle.capi_handler.specs.Arbitrate.{arbitrated}
 use Rattle.capi_handler.proofs.trainer_arbitrate.Statement.{statement}

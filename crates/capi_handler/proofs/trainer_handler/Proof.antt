@@ -1,6 +1,5 @@
 -- `capi_handler::trainer_handler` meets its contract.
 use borrow.Author.Needs.{needs}
-use mathlib.Core.Path.{refl}
 use borrow.Author.Tests.{le-leb, lt-leb}
 use Rattle.capi_handler.specs.Arbitrate.{freshReturned, freshState}
 use Rattle.capi_handler.proofs.trainer_handler.Statement.{statement}

@@ -1,6 +1,5 @@
 -- `capi_machine::trainer_cold_start` meets its contract.
 use borrow.Author.Needs.{needs}
-use mathlib.Core.Path.{_≡_, ap, _∙_}
 use borrow.Author.Tests.{le-leb, lt-leb}
 use Rattle.coherence.specs.Calls.{startAnswer}
 use Rattle.layout.specs.Directory.{directoryPut}

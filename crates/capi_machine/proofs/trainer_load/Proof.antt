@@ -4,7 +4,7 @@ use Rattle.coherence.specs.declared.Call.the-variants.{Load}
 use Rattle.coherence.specs.Demand3.{Answered}
 use Rattle.layout.specs.Directory.{decoded}
 use Rattle.capi_machine.specs.Call.{narrowed}
-use Rattle.capi_machine.proofs.CallLaws.{no-room, handed-over}
+use Rattle.capi_machine.proofs.CallLaws.{no-room, accepted-over, refused-over}
 use Rattle.capi_machine.proofs.trainer_load.Statement.{statement}
 use Rattle.capi_machine.proofs.trainer_load.Tie as tie
 
@@ -36,8 +36,11 @@ answered c =
     let s = c .load .ensures in
     record { answers = rw (d, n) at (s .0); memory = rw (d, n) at (s .1); cache = rw (d, n) at (s .2) }
 
-hand-over-requires : tie.Need-hand-over-requires
-hand-over-requires c κs = search needs
+encode-requires : tie.Need-encode-requires
+encode-requires c κs = search needs
+
+put-answer-requires : tie.Need-put-answer-requires
+put-answer-requires c κs = search needs
 
 same-length : tie.Need-same-length
 same-length c = search needs
@@ -53,8 +56,26 @@ same-length-4 c = search needs
 
 returns-2 : tie.Need-returns-2
 returns-2 c =
-    let a = c .before .before .before .before .before .before .before .before .before .before .before .before .before .before .before .before .before .before .before .before .before .before .args in
-    let l = handed-over (a .directory .now) (a .memory .now) (a .cache .now) (a .answer .now) _ _ _ _ _ _ _ (answered (c .before .before .before .before .before .before .before .before .before .before .before)) (c .before .before .before .before .before .before .before .before .before .before .before .before .before .before .before .before .before .if1 .left) (c .before .before .before .before .hand-over .ensures) in
+    let a = c .before .before .before .before .before .before .before .before .before .before .before .before .before .before .before .before .before .before .before .before .before .before .before .before .before .before .args in
+    let l = accepted-over (a .directory .now) (a .memory .now) (a .cache .now) (a .answer .now) _ _ _ _ _ _ (answered (c .before .before .before .before .before .before .before .before .before .before .before .before .before .before .before)) (c .before .before .before .before .before .before .before .before .before .before .before .before .before .before .before .before .before .before .before .before .before .if1 .left) (c .before .before .before .before .before .before .before .before .before .if2 .taken) (c .before .before .before .before .before .before .encode .ensures) (c .before .before .put-answer .ensures) in
+    (l .code, l .directory, l .memory, l .cache, l .answer)
+
+cast-result-2 : tie.Need-cast-result-2
+cast-result-2 c = search needs
+
+same-length-5 : tie.Need-same-length-5
+same-length-5 c = search needs
+
+same-length-6 : tie.Need-same-length-6
+same-length-6 c = search needs
+
+same-length-7 : tie.Need-same-length-7
+same-length-7 c = search needs
+
+returns-3 : tie.Need-returns-3
+returns-3 c =
+    let a = c .before .before .before .before .before .before .before .before .before .before .before .before .before .before .before .before .before .before .args in
+    let l = refused-over (a .directory .now) (a .memory .now) (a .cache .now) (a .answer .now) _ _ _ _ (answered (c .before .before .before .before .before .before .before)) (c .before .before .before .before .before .before .before .before .before .before .before .before .before .if1 .left) (c .before .if2 .left) in
     (l .code, l .directory, l .memory, l .cache, l .answer)
 
 pub trainer-load-spec : {M : Type 1} → statement M
@@ -66,9 +87,15 @@ trainer-load-spec =
     decode-requires
     byte-requires
     load-requires
-    hand-over-requires
+    encode-requires
+    put-answer-requires
     same-length
     same-length-2
     same-length-3
     same-length-4
-    returns-2)
+    returns-2
+    cast-result-2
+    same-length-5
+    same-length-6
+    same-length-7
+    returns-3)

@@ -1,7 +1,6 @@
 -- `number::count_groups` meets its contract. The measure is how many groups are left.
 use Prim.Native.Nat.{ℕ, _<_, _≤_, _-_, _+_}
 use mathlib.Core.Path.{sym, ap}
-use mathlib.Core.List.{[]}
 use native.Mathlib.Numerals.{add-one}
 use native.Mathlib.Omega.{arith}
 use lib.ListN.{length}

@@ -1,5 +1,4 @@
 -- `capi_bus::class::plain_class` meets its contract.
-use borrow.Author.Needs.{needs}
 use borrow.Author.Tests.{eq-eqb, ne-eqb}
 use Rattle.capi_bus.specs.Class.{plainClass}
 use Rattle.capi_bus.proofs.class.plain_class.Statement.{statement}

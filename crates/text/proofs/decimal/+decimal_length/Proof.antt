@@ -1,6 +1,6 @@
 -- `text::decimal::decimal_length` meets its contract. The measure is the number.
 use Prim.Native.Nat.{ℕ, _/_, _<_}
-use mathlib.Core.Path.{_≡_, sym, _∙_}
+use mathlib.Core.Path.{sym}
 use native.Mathlib.Omega.{arith}
 use Rattle.text.proofs.DecimalLaws.{length-one, length-more, at-most-20}
 use borrow.Fn.Kinds.{In}

@@ -1,5 +1,5 @@
 -- `text::decimal::put_decimal` meets its contract.
-use mathlib.Core.Path.{refl, sym, _∙_}
+use mathlib.Core.Path.{sym, _∙_}
 use borrow.Author.Needs.{needs}
 use borrow.Author.Tests.{leb-true}
 use Rattle.text.proofs.SpaceLaws.{placed-room, placed-none}
