@@ -26,7 +26,7 @@ enum {
   TRAINER_BAD_ADDRESS = 4,      /* an address that is no multiple of 4 up to 2,044; a block above 63 */
   TRAINER_CUT = 5,              /* a tape that ends before a number is complete, or a place past its end */
   TRAINER_BAD_NUMBER = 6,       /* a number that is not spelled as it must be */
-  TRAINER_UNKNOWN_KIND = 7,     /* a record of a kind above 6; an address cycle that is no interrupt request */
+  TRAINER_UNKNOWN_KIND = 7,     /* a record of kind 7, or of 9 and above; an address cycle that is no interrupt request */
   TRAINER_FIELD_RANGE = 8,      /* a field out of its range */
   TRAINER_NO_ROOM = 9,          /* a lent space that is too small; a message above TRAINER_MESSAGE bytes */
   TRAINER_BAD_STATE = 10,       /* a handler's or a receiver's state out of range */
@@ -95,7 +95,8 @@ uint32_t trainer_peek(const uint8_t *directory, size_t directory_size,
 
 /* ---- The tape */
 
-/* The kinds of a record, with their fields. */
+/* The kinds of a record, with their fields; there is no kind 7. The cycles of a stamp are any 64-bit number; in every other field a number above
+ * 2^32 - 1 is refused with TRAINER_FIELD_RANGE. */
 enum {
   TRAINER_KIND_LOAD = 0,     /* unit, address */
   TRAINER_KIND_STORE = 1,    /* unit, address, value */
@@ -103,7 +104,8 @@ enum {
   TRAINER_KIND_ORDER = 3,    /* unit, command, block, retried */
   TRAINER_KIND_ANSWER = 4,   /* from, to, AID, code */
   TRAINER_KIND_REGISTER = 5, /* from, to, AID, write, RA, BCT */
-  TRAINER_KIND_LOADED = 6    /* unit, value */
+  TRAINER_KIND_LOADED = 6,   /* unit, value */
+  TRAINER_KIND_STAMP = 8     /* cycles */
 };
 
 /* Numbers of a record: its kind, and its fields in the order above. Numbers behind the last field are 0 when a record is read, and ignored
@@ -118,7 +120,7 @@ uint32_t trainer_read_record(const uint8_t *tape, size_t tape_size,
                              uint64_t *numbers, size_t numbers_size);
 
 /* Writes a record into the first bytes of the space; *written becomes how many. Refusals: 8 if there are not TRAINER_RECORD numbers;
- * then 7 (a kind above 6), 8, 9. */
+ * then 7 (kind 7, or 9 and above), 8, 9. */
 uint32_t trainer_write_record(const uint64_t *numbers, size_t numbers_size,
                               uint8_t *space, size_t space_size,
                               size_t *written);

@@ -74,46 +74,47 @@ class Bad(Exception):
 
 
 def number_at(tape, place):
-    """A number is groups of seven bits, low group first, high bit set on all but the last; the shortest spelling; five groups, the fifth at most 15."""
+    """A number is groups of seven bits, low group first, high bit set on all but the last; the shortest spelling; ten groups, the tenth at most 1 (T-04)."""
     value = 0
-    for group in range(5):
+    for group in range(10):
         if place + group >= len(tape):
             raise Bad(5, place)
         byte = tape[place + group]
-        if group == 4 and byte > 15 or group > 0 and byte == 0:
+        if group == 9 and byte > 1 or group > 0 and byte == 0:
             raise Bad(6, place)
         value += byte % 128 * 128**group
         if byte < 128:
             return value, place + group + 1
 
 
+FIELDS = {
+    0: ["unit", "address"],
+    1: ["unit", "address", "word"],
+    2: ["unit", "block"],
+    3: ["unit", "command", "block", "retried"],
+    4: ["from", "to", "byte", "byte"],
+    5: ["from", "to", "byte", "flag", "word", "bct"],
+    6: ["unit", "word"],
+    8: ["cycles"],
+}
+MOST = {"unit": 3, "address": 2044, "block": 63, "command": 3, "retried": 1, "from": 7, "to": 7, "byte": 255, "flag": 1, "bct": 7, "word": 2**32 - 1, "cycles": 2**64 - 1}
+
+
 def keeps(kind, fields):
     """Whether the last of these fields of a record keeps its range and rule."""
-    names = [
-        ["unit", "address"],
-        ["unit", "address", "word"],
-        ["unit", "block"],
-        ["unit", "command", "block", "retried"],
-        ["from", "to", "byte", "byte"],
-        ["from", "to", "byte", "flag", "word", "bct"],
-        ["unit", "word"],
-    ][kind]
-    name, n = names[len(fields) - 1], fields[-1]
-    most = {"unit": 3, "address": 2044, "word": 2**32 - 1, "block": 63, "command": 3, "retried": 1, "from": 7, "to": 7, "byte": 255, "flag": 1, "bct": 7}[name]
+    name, n = FIELDS[kind][len(fields) - 1], fields[-1]
+    most = MOST[name]
     bent = name == "address" and n % 4 or name == "retried" and n and fields[1] > 1 or name == "to" and n == fields[0]
     return n <= most and not bent
-
-
-COUNTS = [2, 3, 2, 4, 4, 6, 2]
 
 
 def record_at(tape, place):
     """The record at a place: its kind and fields, and the place after it."""
     kind, at = number_at(tape, place)
-    if kind > 6:
+    if kind not in FIELDS:
         raise Bad(7, place)
     fields = []
-    for _ in range(COUNTS[kind]):
+    for _ in FIELDS[kind]:
         field, after = number_at(tape, at)
         fields.append(field)
         if not keeps(kind, fields):
@@ -137,12 +138,12 @@ def spelled(n):
 
 
 def writing(room, *numbers):
-    """Tests 8, then 9; fills the first bytes, answers how many, and the rest stays. A kind above 6 is 7."""
+    """Tests 8, then 9; fills the first bytes, answers how many, and the rest stays. Kind 7 and kinds from 9 up are 7 (T-04)."""
     kind, *fields = list(numbers) + [0] * (7 - len(numbers))
     space = [UNTOUCHED] * room
-    if kind > 6:
+    if kind not in FIELDS:
         return [7, 0], space
-    fields = fields[: COUNTS[kind]]
+    fields = fields[: len(FIELDS[kind])]
     if not all(keeps(kind, fields[: n + 1]) for n in range(len(fields))):
         return [8, 0], space
     written = sum(map(spelled, [kind] + fields), [])

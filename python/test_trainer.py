@@ -84,6 +84,12 @@ class Tapes(Case):
         (trainer.Answer(7, 6, 5, 128), "04 07 06 05 80 01"),
         (trainer.Register(1, 2, 3, True, 2**32 - 1, 7), "05 01 02 03 01 FF FF FF FF 0F 07"),
         (trainer.Loaded(2, 127), "06 02 7F"),
+        (trainer.Stamp(0), "08 00"),
+        (trainer.Stamp(300), "08 AC 02"),
+        (trainer.Stamp(2**32), "08 80 80 80 80 10"),
+        (trainer.Stamp(2**63 - 1), "08 FF FF FF FF FF FF FF FF 7F"),
+        (trainer.Stamp(2**63), "08 80 80 80 80 80 80 80 80 80 01"),
+        (trainer.Stamp(2**64 - 1), "08 FF FF FF FF FF FF FF FF FF 01"),
     ]
 
     def test_each_kind_both_ways(self):
@@ -97,7 +103,7 @@ class Tapes(Case):
         self.assertEqual(list(trainer.read_tape(trainer.write_tape(records))), records)
 
     def test_refusals(self):
-        cases = [("80 80 80 80 80", 6, "bad number", 0), ("80 80", 5, "cut", 0), ("80 00", 6, "bad number", 0), ("07", 7, "unknown kind", 0)]
+        cases = [("80 80", 5, "cut", 0), ("80 00", 6, "bad number", 0), ("07", 7, "unknown kind", 0), ("09", 7, "unknown kind", 0)]
         cases += [("00 00 C8 84 00", 6, "bad number", 2), ("00 00 80 10", 8, "field range", 2), ("04 03 03 00 00", 8, "field range", 2)]
         for text, number, name, place in cases:
             self.refused(number, name, trainer.read_record, bytes.fromhex(text), place=place)
@@ -111,6 +117,38 @@ class Tapes(Case):
         self.refused(9, "no room", trainer.write_record, trainer.Store(2, 72, 300), 4)
         self.refused(8, "field range", trainer.write_record, Order(0, Command.COPYBACK, 0, True))
         self.refused(8, "field range", trainer.write_record, trainer.Loaded(0, 2**32))
+
+    def test_long_numbers_read(self):
+        cases = [("80" * 5, 5, "cut", 0), ("80" * 9, 5, "cut", 0), ("80" * 10, 6, "bad number", 0), ("80" * 9 + "00", 6, "bad number", 0)]
+        cases += [("08", 5, "cut", 1), ("08" + "FF" * 9, 5, "cut", 1), ("08" + "FF" * 9 + "02", 6, "bad number", 1), ("08 AC 82 00", 6, "bad number", 1)]
+        # 2^32 is `80 80 80 80 10`, the largest number nine bytes FF and `01`: as a kind, and in older fields.
+        cases += [("80 80 80 80 10 00 00", 7, "unknown kind", 0), ("FF" * 9 + "01", 7, "unknown kind", 0)]
+        cases += [("00 80 80 80 80 10 00", 8, "field range", 1), ("00 00 80 80 80 80 10", 8, "field range", 2)]
+        cases += [("01 00 00 80 80 80 80 10", 8, "field range", 3), ("01 00 00" + "FF" * 9 + "01", 8, "field range", 3)]
+        cases += [("05 01 02 03 01 80 80 80 80 10 07", 8, "field range", 5), ("06 00 80 80 80 80 10", 8, "field range", 2)]
+        for text, number, name, place in cases:
+            with self.subTest(text):
+                self.refused(number, name, trainer.read_record, bytes.fromhex(text), place=place)
+
+    def test_long_numbers_written(self):
+        older = [trainer.Load(2**32, 0), trainer.Load(0, 2**32), trainer.Store(0, 0, 2**32)]
+        older += [trainer.Register(1, 2, 3, True, 2**32, 7), trainer.Loaded(0, 2**64 - 1)]
+        for record in older:
+            self.refused(8, "field range", trainer.write_record, record)
+        self.assertEqual(len(trainer.write_record(trainer.Stamp(2**64 - 1), 11)), 11)
+        self.refused(9, "no room", trainer.write_record, trainer.Stamp(2**64 - 1), 10)
+        self.refused(9, "no room", trainer.write_record, trainer.Stamp(0), 1)
+
+    def test_cycles_that_are_no_64_bit_number_overflow(self):
+        for bad in (-1, 2**64):
+            self.assertRaises(OverflowError, trainer.write_record, trainer.Stamp(bad))
+
+    def test_stamps_in_a_drill(self):
+        largest = "08" + "FF" * 9 + "01"
+        self.assertEqual(trainer.drill(bytes.fromhex("08 00" + largest)), "total 0 calls 0 orders\n")
+        tape = bytes.fromhex("08 64 01 00 48 09" + largest + "00 01 48 08 80 80 80 80 10")
+        self.assertEqual(trainer.drill(tape), "store 0 72 9 orders 1\nload 1 72 9 orders 3\ntotal 2 calls 4 orders\n")
+        self.assertEqual(trainer.drill(tape[:-1]), "store 0 72 9 orders 1\nload 1 72 9 orders 3\nrefused 5 at 21\n")
 
     def test_drill(self):
         self.assertEqual(trainer.drill(b""), "total 0 calls 0 orders\n")

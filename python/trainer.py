@@ -262,8 +262,14 @@ class Loaded(NamedTuple):
     value: int
 
 
-Record = Union[Load, Store, Flush, Order, Answer, Register, Loaded]
-KINDS = (Load, Store, Flush, Order, Answer, Register, Loaded)  # each at its number on the tape
+class Stamp(NamedTuple):
+    """Kind 8: a count of cycles, any 64-bit number."""
+
+    cycles: int
+
+
+Record = Union[Load, Store, Flush, Order, Answer, Register, Loaded, Stamp]
+KINDS = (Load, Store, Flush, Order, Answer, Register, Loaded, None, Stamp)  # each at its number on the tape; there is no kind 7
 
 
 class Reading(NamedTuple):
@@ -303,7 +309,7 @@ def read_tape(tape: Union[bytes, bytearray], place: int = 0) -> Iterator[Record]
         reading = _read(whole, reading.next)
 
 
-def write_record(record: Record, room: int = 5 * _RECORD) -> bytes:
+def write_record(record: Record, room: int = 10 * _RECORD) -> bytes:
     """The bytes of a record, which must fit into so much room; the usual room is enough for any."""
     numbers = [KINDS.index(type(record)), *map(int, record)]
     for number in numbers:

@@ -1,9 +1,20 @@
 //! What the drill program prints for a tape.
 use crate::machine::{Call, Machine, STORE_BYTES};
-use crate::tape::{self, Found};
+use crate::tape::{self, Found, Record};
 use std::fmt::Write;
 
 pub const LONGEST_TAPE: usize = 65536;
+
+/// The call that a record asks, and its word; none for kinds above 2.
+fn call_of(record: &Record) -> Option<(Call, &'static str)> {
+    let field = |n: usize| u32::try_from(record.fields[n]).expect("the fields of kinds 0 to 2 have 32 bits");
+    Some(match record.kind {
+        0 => (Call::Load { unit: field(0), address: field(1) }, "load"),
+        1 => (Call::Store { unit: field(0), address: field(1), value: field(2) }, "store"),
+        2 => (Call::Flush { unit: field(0), block: field(1) }, "flush"),
+        _ => return None,
+    })
+}
 
 pub fn drill(tape: &[u8]) -> String {
     if tape.len() > LONGEST_TAPE {
@@ -23,12 +34,7 @@ pub fn drill(tape: &[u8]) -> String {
                 return text;
             }
         };
-        let (call, word) = match (record.kind, record.fields[..].first_chunk::<2>()) {
-            (0, Some(&[unit, address])) => (Call::Load { unit, address }, "load"),
-            (1, Some(&[unit, address])) => (Call::Store { unit, address, value: record.fields[2] }, "store"),
-            (2, Some(&[unit, block])) => (Call::Flush { unit, block }, "flush"),
-            _ => continue,
-        };
+        let Some((call, word)) = call_of(&record) else { continue };
         let reply = machine.call(call).expect("the tape's ranges are the machine's");
         let value = match call {
             Call::Load { .. } => format!(" {}", reply.value),
@@ -66,10 +72,25 @@ mod tests {
     fn the_ends_of_a_drill() {
         assert_eq!(drill(&[]), "total 0 calls 0 orders\n");
         assert_eq!(drill(&[0x80, 0x80]), "refused 5 at 0\n");
-        assert_eq!(drill(&[0x80, 0x80, 0x80, 0x80, 0x80]), "refused 6 at 0\n");
+        assert_eq!(drill(&[0x80; 5]), "refused 5 at 0\n");
+        assert_eq!(drill(&[0x80; 9]), "refused 5 at 0\n");
+        assert_eq!(drill(&[0x80; 10]), "refused 6 at 0\n");
         assert_eq!(drill(&[0x02, 0x00, 0x3F, 0x02, 0x00, 0x40]), "flush 0 63 orders 0\nrefused 8 at 5\n");
         assert_eq!(drill(&[0x06, 0x00, 0x05]), "total 0 calls 0 orders\n");
         assert_eq!(drill(&vec![0; LONGEST_TAPE + 1]), "refused 9 at 65536\n");
         assert_eq!(drill(&vec![0; LONGEST_TAPE]).lines().last(), Some("refused 5 at 65536"));
+    }
+
+    #[test]
+    fn stamps_are_passed_over() {
+        let largest = [0x08, 0xFF, 0xFF, 0xFF, 0xFF, 0xFF, 0xFF, 0xFF, 0xFF, 0xFF, 0x01];
+        assert_eq!(drill(&[0x08, 0x00]), "total 0 calls 0 orders\n");
+        assert_eq!(drill(&largest), "total 0 calls 0 orders\n");
+        let store: &[u8] = &[0x01, 0x00, 0x48, 0x09];
+        let load: &[u8] = &[0x00, 0x01, 0x48];
+        let text = "store 0 72 9 orders 1\nload 1 72 9 orders 3\ntotal 2 calls 4 orders\n";
+        assert_eq!(drill(&[&largest, store, &[0x08, 0x05], &largest, load, &[0x08, 0x00]].concat()), text);
+        assert_eq!(drill(&[store, &[0x08]].concat()), "store 0 72 9 orders 1\nrefused 5 at 5\n");
+        assert_eq!(drill(&[&[0x08, 0x05], store, &[0x07]].concat()), "store 0 72 9 orders 1\nrefused 7 at 6\n");
     }
 }

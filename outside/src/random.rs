@@ -14,6 +14,11 @@ impl Random {
         (self.0 >> 32) as u32
     }
 
+    /// A number of 64 bits.
+    pub fn wide(&mut self) -> u64 {
+        u64::from(self.next()) << 32 | u64::from(self.next())
+    }
+
     /// A number below `end`.
     pub fn below(&mut self, end: u32) -> u32 {
         (u64::from(self.next()) * u64::from(end) >> 32) as u32

@@ -9,8 +9,8 @@ pub const NO_ROOM: u32 = 9;
 /// A record as the table has it: its kind and its fields, in order.
 #[derive(Clone, Debug, PartialEq, Eq)]
 pub struct Record {
-    pub kind: u32,
-    pub fields: Vec<u32>,
+    pub kind: u64,
+    pub fields: Vec<u64>,
 }
 
 #[derive(Clone, Copy, Debug, PartialEq, Eq)]
@@ -28,7 +28,7 @@ pub enum Found {
 /// What a field must keep to, given those before it.
 #[derive(Clone, Copy)]
 enum Rule {
-    UpTo(u32),
+    UpTo(u64),
     Address,
     /// 0 to 7, and not the field before.
     OtherParty,
@@ -36,54 +36,59 @@ enum Rule {
     Retried,
 }
 
-const ANY: Rule = Rule::UpTo(u32::MAX);
+/// Any number of 32 bits.
+const WORD: Rule = Rule::UpTo(u32::MAX as u64);
+/// Any number of 64 bits, which is every number that has a spelling.
+const CYCLES: Rule = Rule::UpTo(u64::MAX);
 
-fn rules(kind: u32) -> Option<&'static [Rule]> {
+fn rules(kind: u64) -> Option<&'static [Rule]> {
     use Rule::*;
     Some(match kind {
         0 => &[UpTo(3), Address],
-        1 => &[UpTo(3), Address, ANY],
+        1 => &[UpTo(3), Address, WORD],
         2 => &[UpTo(3), UpTo(63)],
         3 => &[UpTo(3), UpTo(3), UpTo(63), Retried],
         4 => &[UpTo(7), OtherParty, UpTo(255), UpTo(255)],
-        5 => &[UpTo(7), OtherParty, UpTo(255), UpTo(1), ANY, UpTo(7)],
-        6 => &[UpTo(3), ANY],
+        5 => &[UpTo(7), OtherParty, UpTo(255), UpTo(1), WORD, UpTo(7)],
+        6 => &[UpTo(3), WORD],
+        8 => &[CYCLES],
         _ => return None,
     })
 }
 
 /// The number of fields of a kind, if there is such a kind.
-pub fn field_count(kind: u32) -> Option<usize> {
+pub fn field_count(kind: u64) -> Option<usize> {
     rules(kind).map(|r| r.len())
 }
 
-fn keeps(rule: Rule, before: &[u32], field: u32) -> bool {
+fn keeps(rule: Rule, before: &[u64], field: u64) -> bool {
     match rule {
         Rule::UpTo(most) => field <= most,
         Rule::Address => field % 4 == 0 && field <= 2044,
         Rule::OtherParty => field <= 7 && before.last() != Some(&field),
-        Rule::Retried => field <= u32::from(before[before.len() - 2] < 2),
+        Rule::Retried => field <= u64::from(before[before.len() - 2] < 2),
     }
 }
 
 /// The number that starts at a place, and the place after it.
-fn number(tape: &[u8], place: usize) -> Result<(u32, usize), Refused> {
-    let mut sum = 0u32;
+fn number(tape: &[u8], place: usize) -> Result<(u64, usize), Refused> {
+    let mut sum = 0u64;
     for group in 0.. {
         let byte = *tape.get(place + group).ok_or(Refused { number: CUT, place })?;
         let ends = byte < 128;
-        if (group == 4 && byte > 15) || (group > 0 && byte == 0) {
+        if (group == 9 && byte > 1) || (group > 0 && byte == 0) {
             return Err(Refused { number: BAD_NUMBER, place });
         }
-        sum |= u32::from(byte % 128) << (7 * group);
+        sum |= u64::from(byte % 128) << (7 * group);
         if ends {
             return Ok((sum, place + group + 1));
         }
     }
-    unreachable!("a fifth group ends the number or breaks its spelling")
+    unreachable!("a tenth group ends the number or breaks its spelling")
 }
 
-fn spell(mut number: u32, out: &mut Vec<u8>) {
+/// Puts the groups of a number behind the bytes that are there.
+pub fn spell(mut number: u64, out: &mut Vec<u8>) {
     while number >= 128 {
         out.push(number as u8 | 128);
         number >>= 7;
@@ -137,11 +142,14 @@ pub fn write(record: &Record, room: usize) -> Result<Vec<u8>, u32> {
 mod tests {
     use super::*;
 
+    const TWO_TO_32: [u8; 5] = [0x80, 0x80, 0x80, 0x80, 0x10];
+    const LARGEST: [u8; 10] = [0xFF, 0xFF, 0xFF, 0xFF, 0xFF, 0xFF, 0xFF, 0xFF, 0xFF, 0x01];
+
     fn refused(tape: &[u8], number: u32, place: usize) {
         assert_eq!(read(tape, 0), Err(Refused { number, place }), "{tape:02x?}");
     }
 
-    fn record(kind: u32, fields: &[u32]) -> Record {
+    fn record(kind: u64, fields: &[u64]) -> Record {
         Record { kind, fields: fields.to_vec() }
     }
 
@@ -160,18 +168,98 @@ mod tests {
     #[test]
     fn spellings() {
         refused(&[0x80, 0x00], 6, 0);
-        refused(&[0x80, 0x80, 0x80, 0x80, 0x80], 6, 0);
         refused(&[0x80, 0x80], 5, 0);
+        refused(&[0x80; 5], 5, 0);
+        refused(&[0x80; 9], 5, 0);
+        refused(&[0x80; 10], 6, 0);
+        refused(&[0x80; 11], 6, 0);
+        refused(&[0x80, 0x80, 0x80, 0x80, 0x00], 6, 0);
         refused(&[0x00, 0x00, 0xC8, 0x84, 0x00], 6, 2);
-        refused(&[0x01, 0x00, 0x00, 0xFF, 0xFF, 0xFF, 0xFF, 0x10], 6, 3);
+        refused(&[0x08, 0x80, 0x80, 0x80, 0x80, 0x80, 0x80, 0x80, 0x80, 0x80], 5, 1);
+        refused(&[0x08, 0xFF, 0xFF, 0xFF, 0xFF, 0xFF, 0xFF, 0xFF, 0xFF, 0xFF, 0x02], 6, 1);
+        refused(&[0x08, 0xFF, 0xFF, 0xFF, 0xFF, 0xFF, 0xFF, 0xFF, 0xFF, 0xFF, 0x81], 6, 1);
+        refused(&[0x08, 0xFF, 0xFF, 0xFF, 0xFF, 0xFF, 0xFF, 0xFF, 0xFF, 0xFF, 0x00], 6, 1);
         let most = [0x06, 0x00, 0xFF, 0xFF, 0xFF, 0xFF, 0x0F];
-        assert_eq!(read(&most, 0), Ok(Found::Record(record(6, &[0, u32::MAX]), 7)));
+        assert_eq!(read(&most, 0), Ok(Found::Record(record(6, &[0, u64::from(u32::MAX)]), 7)));
         assert_eq!(read(&[0x00, 0x00, 0xC8, 0x04], 0), Ok(Found::Record(record(0, &[0, 584]), 4)));
+    }
+
+    /// Of all spellings of up to three bytes, those that are read are the ones that their number has.
+    #[test]
+    fn one_spelling_for_each_number() {
+        for length in 1..=3 {
+            let mut numbers = 0;
+            for bytes in 0..1u32 << (8 * length) {
+                let tape = &bytes.to_le_bytes()[..length];
+                if let Ok((n, end)) = number(tape, 0) {
+                    let mut spelled = Vec::new();
+                    spell(n, &mut spelled);
+                    assert_eq!(spelled, tape[..end]);
+                    numbers += u32::from(end == length);
+                }
+            }
+            // One byte: 0 to 127; two: up to 16,383; three: up to 2,097,151.
+            assert_eq!(numbers, [128, 16_384 - 128, 2_097_152 - 16_384][length - 1]);
+        }
+    }
+
+    #[test]
+    fn stamps() {
+        let spelled: [(u64, &[u8]); 9] = [
+            (0, &[0x00]),
+            (127, &[0x7F]),
+            (128, &[0x80, 0x01]),
+            (300, &[0xAC, 0x02]),
+            (4_294_967_295, &[0xFF, 0xFF, 0xFF, 0xFF, 0x0F]),
+            (4_294_967_296, &TWO_TO_32),
+            (9_223_372_036_854_775_807, &[0xFF, 0xFF, 0xFF, 0xFF, 0xFF, 0xFF, 0xFF, 0xFF, 0x7F]),
+            (9_223_372_036_854_775_808, &[0x80, 0x80, 0x80, 0x80, 0x80, 0x80, 0x80, 0x80, 0x80, 0x01]),
+            (18_446_744_073_709_551_615, &LARGEST),
+        ];
+        for (cycles, groups) in spelled {
+            let bytes = [&[0x08], groups].concat();
+            let stamp = record(8, &[cycles]);
+            assert_eq!(write(&stamp, bytes.len()), Ok(bytes.clone()));
+            assert_eq!(write(&stamp, bytes.len() - 1), Err(9));
+            assert_eq!(read(&bytes, 0), Ok(Found::Record(stamp, bytes.len())));
+            refused(&bytes[..bytes.len() - 1], 5, 1);
+        }
+    }
+
+    #[test]
+    fn kinds() {
+        refused(&[0x07, 0x80, 0x00], 7, 0);
+        refused(&[0x09], 7, 0);
+        refused(&[0x0A], 7, 0);
+        refused(&TWO_TO_32, 7, 0);
+        refused(&[0x88, 0x80, 0x80, 0x80, 0x10], 7, 0); // 2^32 + 8
+        refused(&LARGEST, 7, 0);
+        for kind in [7, 9, 10, 256, 1 << 32, (1 << 32) + 8, u64::MAX] {
+            assert_eq!(write(&record(kind, &[0]), 0), Err(7));
+        }
+    }
+
+    #[test]
+    fn no_older_field_is_above_32_bits() {
+        let records: [&[u8]; 7] = [&[0, 0, 0], &[1, 0, 0, 0], &[2, 0, 0], &[3, 0, 0, 0, 0], &[4, 0, 1, 0, 0], &[5, 0, 1, 0, 0, 0, 0], &[6, 0, 0]];
+        for bytes in records {
+            let whole = record(bytes[0].into(), &bytes[1..].iter().map(|&n| n.into()).collect::<Vec<u64>>());
+            assert_eq!(read(bytes, 0), Ok(Found::Record(whole.clone(), bytes.len())));
+            for at in 1..bytes.len() {
+                refused(&[&bytes[..at], &TWO_TO_32].concat(), 8, at);
+                refused(&[&bytes[..at], &LARGEST].concat(), 8, at);
+                for number in [1 << 32, u64::MAX] {
+                    let mut other = whole.clone();
+                    other.fields[at - 1] = number;
+                    assert_eq!(write(&other, 40), Err(8));
+                }
+            }
+        }
+        refused(&[0x01, 0x00, 0x00, 0xFF, 0xFF, 0xFF, 0xFF, 0x10], 8, 3);
     }
 
     #[test]
     fn ranges() {
-        refused(&[0x07, 0x80, 0x00], 7, 0);
         refused(&[0x00, 0x04, 0x00], 8, 1);
         refused(&[0x00, 0x00, 0x02], 8, 2);
         refused(&[0x00, 0x00, 0x80, 0x10], 8, 2); // 2,048

@@ -8,8 +8,22 @@ use outside::drill::{drill, LONGEST_TAPE};
 use outside::machine::{Call, Machine, Newest, Reply, DIRECTORY_BYTES, STORE_BYTES};
 use outside::random::Random;
 use outside::tape::{self, Found, Record};
+use std::collections::BTreeSet;
 
 const UNTOUCHED: u32 = 0xA5A5_A5A5;
+/// Bytes that are room for any record.
+const ROOM: usize = 40;
+/// One byte for each number of a record: of each kind one that is read and written.
+const RECORDS: [&[u8]; 8] = [
+    &[0, 3, 4],
+    &[1, 2, 8, 5],
+    &[2, 1, 63],
+    &[3, 3, 1, 62, 1],
+    &[4, 7, 6, 5, 4],
+    &[5, 6, 7, 5, 1, 4, 3],
+    &[6, 2, 9],
+    &[8, 7],
+];
 
 /// The numbers that a call leaves in the lent space.
 fn answer_after(reply: &Result<Reply, u32>, space: usize) -> Vec<u32> {
@@ -226,11 +240,30 @@ fn cold_starts(counts: &mut Counts) {
     }
 }
 
+/// A number near 0, 2^7, 2^14 .. 2^63, 2^32 or 2^64.
+fn border(random: &mut Random) -> u64 {
+    let groups = random.below(10);
+    let power = 1u64.checked_shl(random.pick(&[7 * groups, 32, 64])).unwrap_or(0);
+    power.wrapping_add(u64::from(random.below(9))).wrapping_sub(4)
+}
+
+/// A number of one to ten groups.
+fn random_cycles(random: &mut Random) -> u64 {
+    if random.one_in(4) {
+        border(random)
+    } else {
+        random.wide() >> random.below(64)
+    }
+}
+
 /// A field's number, mostly in range.
-fn random_field(random: &mut Random, kind: u32, place: usize) -> u64 {
+fn random_field(random: &mut Random, kind: u64, place: usize) -> u64 {
     if random.one_in(60) {
         let edges = [2, 3, 4, 7, 8, 63, 64, 127, 128, 255, 256, 257, 1 << 16, 1 << 31, u64::from(u32::MAX), 1 << 32, (1 << 32) + 1, u64::MAX];
-        return random.pick(&edges);
+        return if random.one_in(2) { random.pick(&edges) } else { border(random) };
+    }
+    if kind == 8 {
+        return random_cycles(random);
     }
     u64::from(match (kind, place) {
         (0..=2 | 6, 0) => random.below(4),
@@ -253,29 +286,26 @@ fn random_field(random: &mut Random, kind: u32, place: usize) -> u64 {
 
 /// Seven numbers: a kind, and fields for it with 0 behind them.
 fn random_numbers(random: &mut Random) -> Vec<u64> {
-    let kind = if random.one_in(40) { random.pick(&[7, 8, 256, u64::from(u32::MAX), 1 << 32, (1 << 32) + 2]) } else { u64::from(random.below(7)) };
+    let unknown = [7, 9, 10, 15, 16, 256, 264, u64::from(u32::MAX), 1 << 32, (1 << 32) + 2, (1 << 32) + 8, 1 << 63, u64::MAX];
+    let kind = if random.one_in(40) { random.pick(&unknown) } else { random.pick(&[0, 1, 2, 3, 4, 5, 6, 8]) };
     let mut numbers = vec![0; RECORD_NUMBERS];
     numbers[0] = kind;
-    for place in 0..tape::field_count(kind.min(9) as u32).unwrap_or(0) {
-        numbers[1 + place] = random_field(random, kind as u32, place);
+    for place in 0..tape::field_count(kind).unwrap_or(0) {
+        numbers[1 + place] = random_field(random, kind, place);
     }
     numbers
 }
 
-/// The record that seven numbers name: fields that no 32-bit number holds are out of every range.
+/// The record that seven numbers name.
 fn record_of(numbers: &[u64]) -> Result<Record, u32> {
-    let kind = u32::try_from(numbers[0]).map_err(|_| tape::UNKNOWN_KIND)?;
-    let count = tape::field_count(kind).ok_or(tape::UNKNOWN_KIND)?;
-    let fields = numbers[1..=count].iter().map(|&n| u32::try_from(n)).collect::<Result<Vec<u32>, _>>();
-    Ok(Record { kind, fields: fields.map_err(|_| tape::FIELD_RANGE)? })
+    let count = tape::field_count(numbers[0]).ok_or(tape::UNKNOWN_KIND)?;
+    Ok(Record { kind: numbers[0], fields: numbers[1..=count].to_vec() })
 }
 
 fn numbers_of(record: &Record) -> Vec<u64> {
     let mut numbers = vec![0; RECORD_NUMBERS];
-    numbers[0] = u64::from(record.kind);
-    for (place, &field) in numbers[1..].iter_mut().zip(&record.fields) {
-        *place = u64::from(field);
-    }
+    numbers[0] = record.kind;
+    numbers[1..=record.fields.len()].copy_from_slice(&record.fields);
     numbers
 }
 
@@ -330,7 +360,7 @@ fn random_tape(counts: &mut Counts, random: &mut Random, records: u32, damage: b
     let mut tape = Vec::new();
     for _ in 0..records {
         let numbers = random_numbers(random);
-        let room = if random.one_in(10) { random.below(12) as usize } else { 40 };
+        let room = if random.one_in(10) { random.below(12) as usize } else { ROOM };
         if let Some(bytes) = write_both(counts, random, &numbers, room) {
             tape.extend(bytes);
         }
@@ -340,7 +370,7 @@ fn random_tape(counts: &mut Counts, random: &mut Random, records: u32, damage: b
             let at = random.below(tape.len() as u32 + 1) as usize;
             match random.below(6) {
                 0 => tape.truncate(at),
-                1 => tape.insert(at, random.pick(&[0, 0x80, 0xFF, 0x0F, 0x10])),
+                1 => tape.insert(at, random.pick(&[0, 1, 2, 0x80, 0xFF, 0x0F, 0x10])),
                 2 if at < tape.len() => drop(tape.remove(at)),
                 3 => tape.push(0x80),
                 _ if at < tape.len() => tape[at] ^= 1 << random.below(8),
@@ -354,18 +384,19 @@ fn random_tape(counts: &mut Counts, random: &mut Random, records: u32, damage: b
 fn tapes(counts: &mut Counts) {
     for seed in 0..30_000 {
         let mut random = Random::new(3_000_000 + seed);
-        let tape = match random.below(8) {
+        let tape = match random.below(9) {
             0 => (0..random.below(30)).map(|_| random.byte()).collect(),
-            1 => (0..random.below(30)).map(|_| random.pick(&[0, 1, 2, 3, 4, 5, 6, 7, 0x80, 0x7F, 0x0F, 0x10, 0xFF])).collect(),
+            1 => (0..random.below(30)).map(|_| random.pick(&[0, 1, 2, 3, 4, 5, 6, 7, 8, 9, 0x80, 0x7F, 0x0F, 0x10, 0xFF])).collect(),
+            2 => (0..random.below(40)).map(|_| random.pick(&[0, 1, 1, 2, 8, 8, 0x80, 0x80, 0x80, 0x80, 0x81, 0xFF, 0xFF, 0xFF, 0xFF])).collect(),
             kind => {
                 let records = random.below(12);
-                random_tape(counts, &mut random, records, kind > 3)
+                random_tape(counts, &mut random, records, kind > 4)
             }
         };
         let mut place = 0;
         while let Some(next) = read_both(counts, &tape, place, RECORD_NUMBERS) {
             if let Ok(Found::Record(record, _)) = tape::read(&tape, place) {
-                let bytes = write_both(counts, &mut random, &numbers_of(&record), 40);
+                let bytes = write_both(counts, &mut random, &numbers_of(&record), ROOM);
                 same("a record written back", &(&tape, place), bytes.as_deref(), Some(&tape[place..next]));
             }
             place = next;
@@ -381,13 +412,81 @@ fn tapes(counts: &mut Counts) {
         }
         let numbers: Vec<u64> = random_numbers(&mut random).into_iter().chain([0]).collect();
         let size = random.pick(&[0, 1, 6, 7, 8]);
-        write_both(counts, &mut random, &numbers[..size], 40);
+        write_both(counts, &mut random, &numbers[..size], ROOM);
         counts.seen("tapes");
     }
 }
 
+/// Reads these bytes in the place of every number of every kind: with the tape's end right after them, and with the numbers that follow there. True if a
+/// stamp takes them as its field.
+fn read_everywhere(counts: &mut Counts, bytes: &[u8]) -> bool {
+    let mut taken = false;
+    for record in RECORDS {
+        for place in 0..record.len() {
+            let cut = [&record[..place], bytes].concat();
+            let whole = [&cut, &record[place + 1..]].concat();
+            read_both(counts, &cut, 0, RECORD_NUMBERS);
+            let after = read_both(counts, &whole, 0, RECORD_NUMBERS);
+            taken |= (record[0], place, after) == (8, 1, Some(1 + bytes.len()));
+        }
+    }
+    taken
+}
+
+/// Writes this number in the place of every number of every kind: with room for any record, with just enough room, and with one byte less.
+fn write_everywhere(counts: &mut Counts, random: &mut Random, number: u64) {
+    for record in RECORDS {
+        for place in 0..record.len() {
+            let mut numbers: Vec<u64> = record.iter().map(|&n| n.into()).collect();
+            numbers.resize(RECORD_NUMBERS, 0);
+            numbers[place] = number;
+            if let Some(bytes) = write_both(counts, random, &numbers, ROOM) {
+                write_both(counts, random, &numbers, bytes.len());
+                write_both(counts, random, &numbers, bytes.len() - 1);
+                let after = read_both(counts, &bytes, 0, RECORD_NUMBERS);
+                same("the end of a record that was written", &numbers, after, Some(bytes.len()));
+            }
+        }
+    }
+}
+
+/// Spellings of one to eleven bytes, and numbers near each power of 2 up to 2^64.
+fn borders(counts: &mut Counts) {
+    let mut lengths = BTreeSet::new();
+    for length in 1..=11 {
+        for high in [0x80, 0x81, 0xC0, 0xFF] {
+            for last in 0..=255 {
+                let mut bytes = vec![high; length];
+                bytes[length - 1] = last;
+                if read_everywhere(counts, &bytes) {
+                    lengths.insert(length);
+                }
+            }
+        }
+    }
+    same("the lengths of the numbers that a stamp takes", &"", lengths, (1..=10).collect());
+    let mut random = Random::new(6_000_000);
+    for power in 0..=64 {
+        for near in 0..5 {
+            let number = ((1u128 << power) + near).wrapping_sub(2) as u64;
+            let mut bytes = Vec::new();
+            tape::spell(number, &mut bytes);
+            same("whether a stamp takes a number of 64 bits", &number, read_everywhere(counts, &bytes), true);
+            write_everywhere(counts, &mut random, number);
+        }
+    }
+}
+
+/// The number of refusal in the last line of a drill's text, 0 where that is the total.
+fn ending(text: &str) -> u32 {
+    let last = text.lines().last().and_then(|line| line.strip_prefix("refused "));
+    last.and_then(|rest| rest.split(' ').next()).map_or(0, |number| number.parse().expect("a number of refusal"))
+}
+
 fn drill_both(counts: &mut Counts, tape: &[u8], space: usize) {
-    let text = drill(tape).into_bytes();
+    let text = drill(tape);
+    counts.one("ends of a drill's text", ending(&text));
+    let text = text.into_bytes();
     let mut out = vec![0xA5; space];
     let mut count = usize::MAX;
     let code = archive::drill(tape, &mut out, &mut count);
@@ -425,6 +524,12 @@ fn drills(counts: &mut Counts) {
     }
     drill_both(counts, &[], 23);
     drill_both(counts, &[], 22);
+    let largest = [8, 0xFF, 0xFF, 0xFF, 0xFF, 0xFF, 0xFF, 0xFF, 0xFF, 0xFF, 1];
+    for stamp in [&[8, 5][..], &largest] {
+        let tape = stamp.repeat(LONGEST_TAPE / stamp.len());
+        drill_both(counts, &tape, 23);
+        drill_both(counts, &tape, 22);
+    }
 }
 
 fn main() {
@@ -434,11 +539,17 @@ fn main() {
     cold_starts(&mut counts);
     tapes(&mut counts);
     drills(&mut counts);
+    let mut at_borders = Counts::default();
+    borders(&mut at_borders);
     let calls: u64 = ["loads", "stores", "flushes"].iter().map(|what| counts.compared[what]).sum();
     let access: &[u32] = &[0, 1, 2, 3, 4, 9];
     counts.expect(&[("cold starts", &[0, 1, 9]), ("loads", access), ("stores", access), ("flushes", access), ("peeks", &[0, 1, 2, 4])]);
     counts.expect(&[("records read", &[0, 5, 6, 7, 8, 9]), ("records written", &[0, 7, 8, 9]), ("drills", &[0, 9])]);
+    counts.expect(&[("ends of a drill's text", &[0, 5, 6, 7, 8, 9])]);
+    at_borders.expect(&[("records read", &[0, 5, 6, 7, 8]), ("records written", &[0, 7, 8, 9])]);
     println!("compared, with no difference:");
     println!("  {calls} calls");
     counts.print();
+    println!("around the borders of numbers:");
+    at_borders.print();
 }

@@ -43,3 +43,4 @@ back (rec.Order o) h = order-back o h
 back (rec.Answer f t a c) h = rw (le-leb a 255 (h .2), le-leb c 255 (h .3), byte f (h .0), byte t (h .1))
 back (rec.Register f t a w x b) h = register-back f t a x b w h
 back (rec.Loaded u v) h = rw (le-leb v 4294967295 (h .1), byte u (h .0))
+back (rec.Stamp c) h = refl

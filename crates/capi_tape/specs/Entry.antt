@@ -49,7 +49,8 @@ nextLeft tape at s n = cond (leb recordSize (length s)) (recordTold at (recordAt
 -- ---- writing
 
 -- A field that is too large for the record's type is refused with 8. Units, parties, blocks, BCT and addresses are capped: their types hold more than
--- their ranges, so that writing itself refuses what was capped. The other fields are tested.
+-- their ranges, so that writing itself refuses what was capped. A stamp's cycles are any 64-bit number, so none crosses that is too large. The other fields are
+-- tested.
 unfoldable pub storeFrom : ℕ → ℕ → ℕ → RecordFound
 storeFrom unit address value =
     cond (leb value 4294967295)
@@ -97,7 +98,8 @@ kindFrom kind a b c d e f =
     (cond (eqb kind 4) (answerFrom a b c d)
     (cond (eqb kind 5) (registerFrom a b c d e f)
     (cond (eqb kind 6) (loadedFrom a b)
-    (found.Refused unknownKind)))))))
+    (cond (eqb kind 8) (found.Known (rec.Stamp a))
+    (found.Refused unknownKind))))))))
 
 -- "No field may be missing": any other count of numbers is refused with 8
 unfoldable pub recordFrom : List ℕ → RecordFound
@@ -115,6 +117,7 @@ Fits (rec.Order o) = (o .unit ≤ 255) × (o .block ≤ 255)
 Fits (rec.Answer from to aid code) = (from ≤ 255) × (to ≤ 255) × (aid ≤ 255) × (code ≤ 255)
 Fits (rec.Register from to aid write ra bct) = (from ≤ 255) × (to ≤ 255) × (aid ≤ 255) × (ra ≤ 4294967295) × (bct ≤ 255)
 Fits (rec.Loaded unit value) = (unit ≤ 255) × (value ≤ 4294967295)
+Fits (rec.Stamp cycles) = cycles ≤ 18446744073709551615
 
 -- such a record comes back from its numbers
 unfoldable pub Back : Type 0

@@ -29,12 +29,17 @@ pub record Examples : Type 0 where
   pub reading : read (3 ∷ bytes) 1 8 ≡ 0 ∷ 11 ∷ numbers ++ (9 ∷ [])
   -- a load has two fields, and 0 behind them
   pub load : read (0 ∷ 3 ∷ 36 ∷ []) 0 7 ≡ 0 ∷ 3 ∷ 0 ∷ 3 ∷ 36 ∷ 0 ∷ 0 ∷ 0 ∷ 0 ∷ []
+  -- a stamp has one, of 64 bits
+  pub stamp : read (8 ∷ replicate 9 255 ++ (1 ∷ [])) 0 7 ≡ 0 ∷ 11 ∷ 8 ∷ 18446744073709551615 ∷ replicate 5 0
+  pub stampWritten : wrote (8 ∷ 18446744073709551615 ∷ replicate 5 0) ≡ 0 ∷ 11 ∷ 8 ∷ replicate 9 255 ++ (1 ∷ 9 ∷ [])
   -- the end of the tape; a kind of 7; too little space
   pub finished : read (0 ∷ 3 ∷ 36 ∷ []) 3 7 ≡ 0 ∷ 3 ∷ replicate 7 9
   pub unknownKind : read (7 ∷ []) 0 7 ≡ 7 ∷ 0 ∷ replicate 7 9
   pub short : read (3 ∷ bytes) 1 6 ≡ 9 ∷ 88 ∷ replicate 6 9
-  -- refused, and all stays: a kind of 7, six numbers, and fields that would be in range if they wrapped
+  -- refused, and all stays: a kind of 7, of 9 and of 264, which would be 8 if it wrapped, six numbers, and fields that would be in range if they wrapped
   pub noKind : wrote (7 ∷ replicate 6 0) ≡ 7 ∷ 77 ∷ replicate 12 9
+  pub kind9 : wrote (9 ∷ replicate 6 0) ≡ 7 ∷ 77 ∷ replicate 12 9
+  pub kind264 : wrote (264 ∷ replicate 6 0) ≡ 7 ∷ 77 ∷ replicate 12 9
   pub six : wrote (replicate 6 0) ≡ 8 ∷ 77 ∷ replicate 12 9
   pub unit256 : wrote (0 ∷ 256 ∷ replicate 5 0) ≡ 8 ∷ 77 ∷ replicate 12 9
   pub address : wrote (0 ∷ 0 ∷ 4294967296 ∷ replicate 4 0) ≡ 8 ∷ 77 ∷ replicate 12 9

@@ -125,6 +125,7 @@ pub(crate) fn record_from(numbers: &[u64]) -> RecordFound
         4 => answer_from(a, b, c, d),
         5 => register_from(a, b, c, d, numbers[5], numbers[6]),
         6 => loaded_from(a, b),
+        8 => RecordFound::Known(Record::Stamp(a)),
         _ => RecordFound::Refused(UNKNOWN_KIND),
     }
 }

@@ -35,6 +35,7 @@ one-more (rec.Order o) cs = omega arith
 one-more (rec.Answer f t a c) cs = omega arith
 one-more (rec.Register f t a w x b) cs = omega arith
 one-more (rec.Loaded u v) cs = omega arith
+one-more (rec.Stamp c) cs = omega arith
 
 calls-counted : (ss : List Started) → length (callsOf ss) ≡ accesses ss
 unfolding callsOf accesses

@@ -13,7 +13,7 @@ use Rattle.text.specs.Space.{ascii}
 use Rattle.text.specs.Decimal.{digitsIn, decimal}
 use Rattle.number.specs.Number.{limitOf, carried, readGroups, refusing, numberAt}
 use Rattle.tape_format.specs.Field.{retriedMost, allowed, ruled, fieldAt}
-use Rattle.tape_format.specs.Record.{load as loadLayout, store as storeLayout, flush as flushLayout, order, answer as answerLayout, register, loaded as loadedLayout, layoutOf, andThen, andCommand, fieldsAt, kindAt, recordAt}
+use Rattle.tape_format.specs.Record.{load as loadLayout, store as storeLayout, flush as flushLayout, order, answer as answerLayout, register, loaded as loadedLayout, stamp, layoutOf, andThen, andCommand, fieldsAt, kindAt, recordAt}
 use Rattle.reading.specs.Reading.{andMore, readOn, readFrom, readAll, accessOf, andCalls, callsOf}
 use Rattle.coherence.specs.Bytes.{blockAt, putBlock, wordAt, putWord}
 use Rattle.coherence.specs.Slots.{place, slotAt, setSlot, holds, modified, ownerOf, allBelow, fits, alone, slotRule, sound, coldDirectory}
@@ -36,11 +36,11 @@ run-text tape h = rw (le-leb (length tape) tapeMost (omega arith))
 pub examples : Examples
 unfolding
     Option·elim commandNumber commandOf flag firstRefusal ascii digitsIn decimal limitOf carried readGroups refusing numberAt
-    retriedMost allowed ruled fieldAt loadLayout storeLayout flushLayout order answerLayout register loadedLayout layoutOf andThen andCommand fieldsAt kindAt recordAt
+    retriedMost allowed ruled fieldAt loadLayout storeLayout flushLayout order answerLayout register loadedLayout stamp layoutOf andThen andCommand fieldsAt kindAt recordAt
     andMore readOn readFrom readAll accessOf andCalls callsOf
     blockAt putBlock wordAt putWord place slotAt setSlot holds modified ownerOf allBelow fits alone slotRule sound coldDirectory
     ready give mark writeBack copyback emptied empty yield ask fill fetch eachUnit expel claim cachePlace write load own store flush
     sized isUnit isAddress isBlock sizeTest directoryTest unitTest targetTest callRefusal startRefusal
     unitOf isTarget refusal act loaded after valueOf packed answer memoryAfter cacheAfter startAnswer cacheStarted answers answersCold
     ordersIn ordersGiven field accessPart ordersPart callLine lines totalLine refusedLine zeroStore callsIn answersIn lastLine drillText printed exampleTape
-examples = record { whole = refl; empty = refl; others = refl; refused = refl; longer = long-text; upTo = run-text; unreadable = λ tape. refl; readable = λ tape. refl }
+examples = record { whole = refl; empty = refl; others = refl; stamps = refl; refused = refl; longer = long-text; upTo = run-text; unreadable = λ tape. refl; readable = λ tape. refl }

@@ -24,6 +24,7 @@ line-numbers (rec.Order o) = omega arith
 line-numbers (rec.Answer f t a c) = omega arith
 line-numbers (rec.Register f t a w x b) = omega arith
 line-numbers (rec.Loaded u v) = omega arith
+line-numbers (rec.Stamp c) = omega arith
 
 valid-short : (r : Record) → valid r ≡ true → Short (accessOf r)
 unfolding accessOf Short
@@ -34,6 +35,7 @@ valid-short (rec.Order o) e = tt
 valid-short (rec.Answer f t a c) e = tt
 valid-short (rec.Register f t a w x b) e = tt
 valid-short (rec.Loaded u v) e = tt
+valid-short (rec.Stamp c) e = tt
 
 module _ (t : List ℕ) (at : ℕ) (r : Record) (next : ℕ) (e : recordAt t at ≡ read.Record r next) where
   pub record-line : 11 * at + lineMost (accessOf r) ≤ 11 * next

@@ -3,19 +3,16 @@ use Prim.Native.Nat.{ℕ, zero, suc, _+_, _*_, _/_, _%_, _-_, _≤_, _<_}
 use native.Mathlib.Omega.{arith}
 use mathlib.Core.Path.{_≡_, refl, sym, ap, ap₂, _∙_}
 use mathlib.Core.Logic.{_⊎_, inl, inr, ⊎-elim}
-use mathlib.Core.List.{List, [], _∷_}
+use mathlib.Core.List.{List, [], _∷_, _++_}
 use mathlib.Core.Bool.{Bool, true, false, cond}
 use lib.ListN.{length, getD}
 use lib.Dec.{ltb, leb}
 use borrow.Author.Tests.{ltb-true, ltb-false, leb-true, leb-false, lt-ltb, le-ltb}
 use Rattle.number.specs.Number.{groups, last, Groups, Value, Cut, Bad, limitOf, carried, readGroups, refusing, numberAt, spellGroups, spell, Bytes}
 use Rattle.number.specs.declared.NumberRead.the-variants.{Number}
-use Rattle.number.proofs.GroupLaws.{step-ends, step-more, top, limit-small}
-
--- the bytes s stand on the tape from p on
-abbrev pub Stands : List ℕ → List ℕ → ℕ → Type 0
-Stands tape [] p = Unit {0}
-Stands tape (b ∷ s) p = (p < length tape) × (getD tape p 0 ≡ b) × Stands tape s (p + 1)
+use Rattle.number.specs.Spelling.{SpellsEach, SpellsOnly}
+use Rattle.number.proofs.GroupLaws.{step-ends, step-more, top, top-above, limit-small}
+use Rattle.number.proofs.StandsLaws.{Stands, stands-in, stands-take}
 
 pub spell-one : (left n : ℕ) → n < 128 → spellGroups (suc left) n ≡ n ∷ []
 unfolding spellGroups
@@ -111,13 +108,27 @@ groups-move most (suc left) n q tape p e =
     let i = inv-read most left n q tape p e in
     ⊎-elim (λ w. (omega arith, omega arith)) (λ w. let m = groups-move most left (suc (w .1 .0)) q tape (p + 1) (w .1 .1) in (omega arith, m .1)) (i .1)
 
--- the numbers that can be spelled are those below this
+-- groups mean less than their top
+groups-below : (most left n q : ℕ) (tape : List ℕ) (p : ℕ) → readGroups most (suc left) tape p ≡ Value n q → n < top most left
+unfolding readGroups limitOf top
+groups-below most zero n q tape p e =
+    let i = inv-read most zero n q tape p e in
+    ⊎-elim (λ w. omega (arith, w .0)) (λ w. absurd (let z : _≡_ {A = ℕ} 0 1 = cc (w .1 .1) in omega arith)) (i .1)
+groups-below most (suc left) n q tape p e =
+    let i = inv-read most (suc left) n q tape p e in
+    ⊎-elim (λ w. omega (arith, w .0, top-above most left)) (λ w. omega (arith, w .1 .2, groups-below most left (suc (w .1 .0)) q tape (p + 1) (w .1 .1))) (i .1)
+
+-- the numbers that can be spelled are those below this: those of 64 bits
 pub limit : ℕ
 limit = top last (groups - 1)
 
-pub limit-word : (n : ℕ) → n ≤ 4294967295 → n < limit
+pub limit-64-bits : (n : ℕ) → n ≤ 18446744073709551615 → n < limit
 unfolding limit top
-limit-word n h = omega arith
+limit-64-bits n h = omega arith
+
+within-64-bits : (n : ℕ) → n < limit → n ≤ 18446744073709551615
+unfolding limit top
+within-64-bits n h = omega arith
 
 -- the two laws of a number, and that reading moves on
 pub number-of-spelled : (n : ℕ) (tape : List ℕ) (p : ℕ) → n < limit → Stands tape (spell n) p → numberAt tape p ≡ Number n (p + length (spell n))
@@ -137,3 +148,16 @@ spelled-of-number n q tape p all e = spelled-read last (omega arith) (groups - 1
 pub number-moves : (n q : ℕ) (tape : List ℕ) (p : ℕ) → numberAt tape p ≡ Number n q → (p < q) × (q ≤ length tape)
 unfolding numberAt
 number-moves n q tape p e = groups-move last groups n q tape p (inv-refusing p (readGroups last groups tape p) n q e)
+
+-- ---- every 64-bit number has one spelling, and nothing else is read
+
+pub spells-each : SpellsEach
+unfolding SpellsEach
+spells-each n h before after = number-of-spelled n (before ++ (spell n ++ after)) (length before) (limit-64-bits n h) (stands-in (spell n) before after)
+
+pub spells-only : SpellsOnly
+unfolding SpellsOnly numberAt limit
+spells-only tape at n next all e =
+    let (s, d) = spelled-of-number n next tape at all e in
+    let k : next - at ≡ length (spell n) = omega arith in
+    (within-64-bits n (groups-below last (groups - 1) n next tape at (inv-refusing at (readGroups last groups tape at) n next e)), rw k (stands-take (spell n) tape at s))

@@ -3,12 +3,13 @@ use Prim.Native.Nat.{ℕ, suc, _+_, _*_, _%_, _-_, _≤_, _<_}
 use native.Mathlib.Omega.{arith}
 use native.Mathlib.Nat.{mul-comm, mul-assoc, mul-le-mul-left}
 use mathlib.Core.Path.{_≡_, refl, sym, ap, _∙_}
+use mathlib.Core.Logic.{_⊎_, ⊎-elim}
 use mathlib.Core.List.{List}
 use lib.ListN.{length, getD}
 use Rattle.order.specs.Refusal.{cut, badNumber}
 use Rattle.number.specs.declared.NumberRead.the-variants.{Number, Refused}
 use Rattle.number.specs.Number.{groups, last, Bad, limitOf, carried, readGroups, refusing, numberAt}
-use Rattle.number.proofs.GroupLaws.{step-cut, step-ends, step-more, onto, onto-one, onto-value, onto-zero, onto-carried, top, top-above, limit-top, below-top}
+use Rattle.number.proofs.GroupLaws.{step-cut, step-ends, step-more, onto, onto-one, onto-value, onto-zero, onto-carried, top, top-above, limit-more, limit-top, below-top}
 
 -- the number at `at`, underway at p: the groups before it mean v, the one at p counts w, and `left` more could follow it
 pub record Underway (tape : List ℕ) (at v w left p : ℕ) : Type 0 where
@@ -72,3 +73,86 @@ module _ (tape : List ℕ) (at v w left p : ℕ) (u : Underway tape at v w left 
 pub top-fits : top last (groups - 1) ≤ 18446744073709551616
 unfolding top
 top-fits = omega arith
+
+-- the loop at p: a number underway whose last group, if it has so many, stands at `final`; the loop ends at `end`, which is that place or the tape's end
+pub record Looping (tape : List ℕ) (at final end v w p : ℕ) : Type 0 where
+  pub left : ℕ
+  pub underway : Underway tape at v w left p
+  pub place : p + left ≡ final
+  pub before : p ≤ end
+  pub ends : ((length tape < final) × (end ≡ length tape)) ⊎ ((final ≤ length tape) × (end ≡ final))
+
+pub started : (tape : List ℕ) (at b final end : ℕ) → at < length tape → b ≡ getD tape at 0 → 127 < b → final ≡ at + (groups - 1)
+    → ((length tape < final) × (end ≡ length tape)) ⊎ ((final ≤ length tape) × (end ≡ final)) → Looping tape at final end (b % 128) 128 (at + 1)
+started tape at b final end h e l f d =
+    record {
+      left = groups - 2;
+      underway = begun tape at b h e l;
+      place = omega arith;
+      before = ⊎-elim (λ x. omega (arith, x .1)) (λ x. omega (arith, x .1)) d;
+      ends = d;
+    }
+
+module _ (tape : List ℕ) (at final end v w p : ℕ) (u : Looping tape at final end v w p) where
+  -- in the loop a group can hold all seven bits
+  module _ (h : p < end) where
+    pub inside : p < length tape
+    inside = ⊎-elim (λ x. omega (arith, x .1)) (λ x. omega (arith, x .0, x .1)) (u .ends)
+
+    some : u .left ≡ 0 → ⊥
+    some z = ⊎-elim (λ x. omega (arith, x .0, x .1, u .place)) (λ x. omega (arith, x .1, u .place)) (u .ends)
+
+    seven : 127 ≡ limitOf last (u .left)
+    seven = limit-more last (u .left) some
+
+    pub in-fits : (b : ℕ) → b ≤ 127 → v + w * b < top last (groups - 1)
+    in-fits b l = fits tape at v w (u .left) p (u .underway) b (rw (sym seven) l)
+
+    pub in-more : (b : ℕ) → v + w * (b % 128) < top last (groups - 1)
+    in-more b = fits-more tape at v w (u .left) p (u .underway) some b
+
+    pub in-weight : w * 256 ≤ top last (groups - 1)
+    in-weight = fits-weight tape at v w (u .left) p (u .underway) some
+
+    module _ (b : ℕ) (e : b ≡ getD tape p 0) where
+      pub in-zero : b ≡ 0 → Refused badNumber at ≡ numberAt tape at
+      in-zero z = was-zero tape at v w (u .left) p (u .underway) b inside e z
+
+      pub in-ended : (b ≡ 0 → ⊥) → b ≤ 127 → Number (v + w * b) (p + 1) ≡ numberAt tape at
+      in-ended n l = ended tape at v w (u .left) p (u .underway) b inside e n (rw (sym seven) l)
+
+      pub in-again : 127 < b → Looping tape at final end (v + w * (b % 128)) (w * 128) (p + 1)
+      in-again l =
+          record {
+            left = u .left - 1;
+            underway = again tape at v w (u .left) p (u .underway) b inside e some (rw (sym seven) l);
+            place = omega (arith, u .place, some);
+            before = omega arith;
+            ends = u .ends;
+          }
+
+  -- after it comes the tape's end or the last group
+  module _ (h : end ≤ p) where
+    pub after-cut : length tape ≤ p → Refused cut at ≡ numberAt tape at
+    after-cut l = was-cut tape at v w (u .left) p (u .underway) l
+
+    module _ (l : p < length tape) where
+      none : u .left ≡ 0
+      none = ⊎-elim (λ x. absurd (omega (arith, x .1, u .before))) (λ x. omega (arith, x .1, u .place, u .before)) (u .ends)
+
+      final-limit : last ≡ limitOf last (u .left)
+      unfolding limitOf
+      final-limit = rw none
+
+      pub after-fits : (b : ℕ) → b ≤ last → v + w * b < top last (groups - 1)
+      after-fits b m = fits tape at v w (u .left) p (u .underway) b (rw (sym final-limit) m)
+
+      module _ (b : ℕ) (e : b ≡ getD tape p 0) where
+        pub after-zero : b ≡ 0 → Refused badNumber at ≡ numberAt tape at
+        after-zero z = was-zero tape at v w (u .left) p (u .underway) b l e z
+
+        pub after-over : last < b → Refused badNumber at ≡ numberAt tape at
+        after-over m = was-over tape at v w (u .left) p (u .underway) b l e none (rw (sym final-limit) m)
+
+        pub after-ended : (b ≡ 0 → ⊥) → b ≤ last → Number (v + w * b) (p + 1) ≡ numberAt tape at
+        after-ended n m = ended tape at v w (u .left) p (u .underway) b l e n (rw (sym final-limit) m)

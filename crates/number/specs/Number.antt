@@ -1,4 +1,5 @@
--- Numbers on the tape (document 01, "The tape"): groups of seven bits, low group first, the high bit set on all but the last; the shortest spelling only.
+-- Numbers on the tape (document 01, "The tape"; document 02, T-04): groups of seven bits, low group first, the high bit set on all but the last; the shortest
+-- spelling only.
 use Prim.Native.Nat.{ℕ, zero, suc, _+_, _*_, _%_, _/_, _<_}
 use mathlib.Core.List.{List, [], _∷_, _++_}
 use mathlib.Core.Bool.{cond}
@@ -8,12 +9,12 @@ use Rattle.order.specs.Refusal.{accepted, cut, badNumber}
 use Rattle.number.specs.declared.NumberRead.{NumberRead}
 use Rattle.number.specs.declared.NumberRead.the-variants.{Number, Refused}
 
--- "At most five groups, the fifth at most 15": the most groups, and the most that the last of so many can hold
+-- "Numbers run to ten groups, the tenth at most 1": the most groups, and the most that the last of so many can hold
 abbrev pub groups : ℕ
-groups = 5
+groups = 10
 
 abbrev pub last : ℕ
-last = 15
+last = 1
 
 -- what a run of groups spells: a value with the place after it, a number that the tape's end cuts, or a bad spelling
 pub data Groups : Type 0 where

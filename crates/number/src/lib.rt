@@ -1,16 +1,16 @@
-// Numbers on the tape (document 01, "The tape"), read and written.
+// Numbers on the tape (document 01, "The tape"; document 02, T-04), read and written.
 use order::BAD_NUMBER;
 use order::CUT;
 ghost use mathlib.Core.Path.{_≡_};
 ghost use Prim.Native.Nat.{_+_, _≤_, _<_};
 ghost use lib.ListN.{length, getD};
 ghost use lib.Seq.{sets};
-ghost use Rattle.number.specs.Number.{last, limitOf, numberAt, spellGroups, spellAll, filled};
+ghost use Rattle.number.specs.Number.{numberAt, spellGroups, spellAll, filled};
 
 // The most groups of a number, and the most that the last of so many can hold.
-pub const GROUPS: u64 = 5;
+pub const GROUPS: u64 = 10;
 
-pub const LAST: u64 = 15;
+pub const LAST: u64 = 1;
 
 // A number with the place after it, or the number of the refusal with its place.
 pub enum NumberRead {
@@ -24,40 +24,40 @@ fn wide(x: u8) -> u64
     x as u64
 }
 
-// The most that a group which ends a number can hold, where `left` more could follow it.
-fn limit(left: u64) -> u64
-    ensures { λ r. ⌜ r ≡ limitOf last left ⌝ }
-{
-    if left == 0 { LAST } else { 127 }
-}
-
-// The number that starts at `at` with the group `first`, whose high bit is set, and goes on after it. The groups read so far mean `value`; the next one
-// counts `weight`, and `left` more could follow it.
+// The number that starts at `at` with the group `first`, whose high bit is set, and goes on after it. The groups before `next` mean `value`, and the one
+// there counts `weight`. Only the group at `last` has a limit of its own.
 fn read_more(tape: &[u8], at: usize, first: u64) -> NumberRead
     requires { ⌜ (at < length (now tape)) × (first ≡ getD (now tape) at 0) × (127 < first) ⌝ }
     ensures { λ r. ⌜ r ≡ numberAt (now (tape .entry)) at ⌝ }
 {
+    let last = at + (GROUPS as usize - 1);
+    let end = if tape.len() < last { tape.len() } else { last };
     let mut value = first % 128;
     let mut weight: u64 = 128;
-    let mut left = GROUPS - 2;
     let mut next = at + 1;
-    while next < tape.len() {
+    while next < end {
         let b = wide(tape[next]);
         if b == 0 {
             return NumberRead::Refused(BAD_NUMBER, at);
         }
-        if b <= limit(left) {
+        if b <= 127 {
             return NumberRead::Number(value + weight * b, next + 1);
-        }
-        if left == 0 {
-            return NumberRead::Refused(BAD_NUMBER, at);
         }
         value += weight * (b % 128);
         weight *= 128;
-        left -= 1;
         next += 1;
     }
-    NumberRead::Refused(CUT, at)
+    if tape.len() <= next {
+        return NumberRead::Refused(CUT, at);
+    }
+    let b = wide(tape[next]);
+    if b == 0 {
+        return NumberRead::Refused(BAD_NUMBER, at);
+    }
+    if b > LAST {
+        return NumberRead::Refused(BAD_NUMBER, at);
+    }
+    NumberRead::Number(value + weight * b, next + 1)
 }
 
 // The number that starts at `at`. Most have one group.

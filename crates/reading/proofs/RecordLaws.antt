@@ -62,6 +62,7 @@ valid-accepted (rec.Order o) e = tt
 valid-accepted (rec.Answer f t a c) e = tt
 valid-accepted (rec.Register f t a w x b) e = tt
 valid-accepted (rec.Loaded u v) e = tt
+valid-accepted (rec.Stamp c) e = tt
 
 module _ (t : List ℕ) (at : ℕ) (r : Record) (next : ℕ) (e : recordAt t at ≡ read.Record r next) where
   pub record-valid : valid r ≡ true

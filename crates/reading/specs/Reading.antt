@@ -54,6 +54,7 @@ accessOf (rec.Order o) = access.Other
 accessOf (rec.Answer from to aid code) = access.Other
 accessOf (rec.Register from to aid write ra bct) = access.Other
 accessOf (rec.Loaded unit value) = access.Other
+accessOf (rec.Stamp cycles) = access.Other
 
 unfoldable pub andCalls : Access → List Call → List Call
 andCalls (access.Asks c) cs = c ∷ cs

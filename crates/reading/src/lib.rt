@@ -38,5 +38,6 @@ pub fn access_of(item: Record) -> Access
             bct: _,
         } => Access::Other,
         Record::Loaded(_, _) => Access::Other,
+        Record::Stamp(_) => Access::Other,
     }
 }

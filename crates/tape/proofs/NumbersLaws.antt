@@ -24,3 +24,4 @@ numbers-spell (rec.Order o) count values e = record { few = omega (arith, e .0);
 numbers-spell (rec.Answer f t a c) count values e = record { few = omega (arith, e .0); long = rw (e .1); same = rw (e .0, e .1) }
 numbers-spell (rec.Register f t a w x b) count values e = record { few = omega (arith, e .0); long = rw (e .1); same = rw (e .0, e .1) }
 numbers-spell (rec.Loaded u v) count values e = record { few = omega (arith, e .0); long = rw (e .1); same = rw (e .0, e .1) }
+numbers-spell (rec.Stamp c) count values e = record { few = omega (arith, e .0); long = rw (e .1); same = rw (e .0, e .1) }

@@ -1,4 +1,4 @@
-// The fields of a record: which numbers each may hold (document 01, "The tape").
+// The fields of a record: which numbers each may hold (document 01, "The tape"; document 02, T-04).
 use number::NumberRead;
 use number::read_number;
 use order::Command;
@@ -33,6 +33,7 @@ pub(crate) fn allows(rule: Rule, n: u64) -> bool
         Rule::Byte => n <= 255,
         Rule::Flag => n <= 1,
         Rule::Bct => n <= 7,
+        Rule::Cycles => n <= 18446744073709551615,
     }
 }
 

@@ -1,4 +1,4 @@
-// Reading a record, one function for each of the seven kinds (document 01, "The tape").
+// Reading a record, one function for each kind (document 01, "The tape"; document 02, T-04).
 use crate::field::field;
 use number::NumberRead;
 use number::read_number;
@@ -13,7 +13,7 @@ use tape_format::RecordRead;
 use tape_format::Rule;
 ghost use mathlib.Core.Path.{_≡_};
 ghost use Prim.Native.Nat.{ℕ};
-ghost use Rattle.tape_format.specs.Record.{fieldsAt, load, store, flush, answer, register, loaded, kindAt, recordAt};
+ghost use Rattle.tape_format.specs.Record.{fieldsAt, load, store, flush, answer, register, loaded, stamp, kindAt, recordAt};
 
 // A number's refusal as the record's. It is called with refusals alone: of any other answer nothing is promised.
 fn refused(read: NumberRead) -> RecordRead
@@ -194,6 +194,17 @@ fn read_loaded(tape: &[u8], at: usize) -> RecordRead
     RecordRead::Record(Record::Loaded(u as u8, v as u32), next)
 }
 
+// Kind 8: cycles.
+fn read_stamp(tape: &[u8], at: usize) -> RecordRead
+    ensures { λ r. ⌜ r ≡ fieldsAt stamp (now (tape .entry)) at ⌝ }
+{
+    let cycles = field(tape, at, Rule::Cycles);
+    let NumberRead::Number(c, next) = cycles else {
+        return refused(cycles);
+    };
+    RecordRead::Record(Record::Stamp(c), next)
+}
+
 // The record of a kind that stands at `start`, with its fields at `at`.
 fn read_kind(tape: &[u8], start: usize, kind: u64, at: usize) -> RecordRead
     ensures { λ r. ⌜ r ≡ kindAt (now (tape .entry)) start kind at ⌝ }
@@ -206,6 +217,7 @@ fn read_kind(tape: &[u8], start: usize, kind: u64, at: usize) -> RecordRead
         4 => read_answer(tape, at),
         5 => read_register(tape, at),
         6 => read_loaded(tape, at),
+        8 => read_stamp(tape, at),
         _ => RecordRead::Refused(UNKNOWN_KIND, start),
     }
 }

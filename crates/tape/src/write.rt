@@ -1,4 +1,4 @@
-// Writing records (document 01, "The tape").
+// Writing records (document 01, "The tape"; document 02, T-04).
 use crate::field::allows;
 use number::write_numbers;
 use order::FIELD_RANGE;
@@ -90,10 +90,14 @@ pub fn numbers_of(item: Record) -> Numbers
             count: 3,
             values: [6, u as u64, v as u64, 0, 0, 0, 0],
         },
+        Record::Stamp(c) => Numbers {
+            count: 2,
+            values: [8, c, 0, 0, 0, 0, 0],
+        },
     }
 }
 
-// Every field is in its range. Those that a byte or 32 bits hold whole need no test.
+// Every field is in its range. Those that a byte or 32 bits hold whole need no test; the test of a stamp is always passed, and gives the proof its range.
 fn valid(item: Record) -> bool
     ensures { λ r. ⌜ r ≡ Rattle.tape_format.specs.Write.valid item ⌝ }
 {
@@ -126,6 +130,7 @@ fn valid(item: Record) -> bool
                 & allows(Rule::Bct, bct as u64)
         }
         Record::Loaded(u, _) => allows(Rule::Unit, u as u64),
+        Record::Stamp(c) => allows(Rule::Cycles, c),
     }
 }
 

@@ -5,12 +5,12 @@ use Rattle.order.specs.Command.{commandNumber, commandOf}
 use Rattle.order.specs.Flag.{flag}
 use Rattle.number.specs.Number.{limitOf, carried, readGroups, refusing, numberAt, spellGroups, spell, spellAll, filled}
 use Rattle.tape_format.specs.Field.{retriedMost, allowed, ruled, fieldAt}
-use Rattle.tape_format.specs.Record.{load, store, flush, order, answer, register, loaded, layoutOf, andThen, andCommand, fieldsAt, kindAt, recordAt, recordTold, kindOf, fieldsOf, fits, fitsCommand}
+use Rattle.tape_format.specs.Record.{load, store, flush, order, answer, register, loaded, stamp, layoutOf, andThen, andCommand, fieldsAt, kindAt, recordAt, recordTold, kindOf, fieldsOf, fits, fitsCommand}
 use Rattle.tape_format.specs.Write.{valid, bytesOf, writtenOf, spaceAfter}
-use Rattle.tape_format.specs.Examples.{Spelled, ordered, toldOf, refusedAt, Examples}
+use Rattle.tape_format.specs.Examples.{Spelled, ordered, toldOf, refusedAt, twoTo32, Examples}
 
 pub examples : Examples
-unfolding Option·elim commandNumber commandOf limitOf carried readGroups refusing numberAt spellGroups spell spellAll filled retriedMost allowed ruled fieldAt flag load store flush order answer register loaded layoutOf andThen andCommand fieldsAt kindAt recordAt recordTold kindOf fieldsOf fits fitsCommand valid bytesOf writtenOf spaceAfter Spelled ordered toldOf refusedAt
+unfolding Option·elim commandNumber commandOf limitOf carried readGroups refusing numberAt spellGroups spell spellAll filled retriedMost allowed ruled fieldAt flag load store flush order answer register loaded stamp layoutOf andThen andCommand fieldsAt kindAt recordAt recordTold kindOf fieldsOf fits fitsCommand valid bytesOf writtenOf spaceAfter Spelled ordered toldOf refusedAt twoTo32
 examples =
     record {
       kind0 = (refl, refl, refl);
@@ -25,6 +25,8 @@ examples =
       kind5 = (refl, refl, refl);
       registerRead = (refl, refl, refl);
       kind6 = (refl, refl, refl);
+      kind8 = (refl, refl, refl);
+      most8 = (refl, refl, refl);
       limits = refl;
       above0 = refl;
       above1 = refl;
@@ -33,7 +35,9 @@ examples =
       above4 = refl;
       above5 = refl;
       above6 = refl;
+      long = refl;
       unknown = refl;
+      stampOver = refl;
       spelling = refl;
       missing = refl;
       pastEnd = refl;

@@ -12,7 +12,7 @@ use Rattle.order.specs.Refusal.{fieldRange}
 use Rattle.number.specs.declared.NumberRead.{NumberRead}
 use Rattle.number.specs.declared.NumberRead.the-variants.{Number, Refused}
 use Rattle.tape_format.specs.declared.Rule.{Rule}
-use Rattle.tape_format.specs.declared.Rule.the-variants.{Unit, Address, Word, Block, Retried, From, To, Byte, Flag, Bct}
+use Rattle.tape_format.specs.declared.Rule.the-variants.{Unit, Address, Word, Block, Retried, From, To, Byte, Flag, Bct, Cycles}
 use Rattle.number.specs.Number.{numberAt}
 use Rattle.tape_format.specs.Field.{retriedMost, allowed, ruled, fieldAt}
 
@@ -60,6 +60,7 @@ mostOf (To from) = 7
 mostOf Byte = 255
 mostOf Flag = 1
 mostOf Bct = 7
+mostOf Cycles = 18446744073709551615
 
 retried-most : (c : Command) → retriedMost c ≤ 1
 unfolding retriedMost
@@ -80,18 +81,21 @@ allowed-most (To from) n h = leb-true n 7 (both-true (leb n 7) _ h .0)
 allowed-most Byte n h = leb-true n 255 h
 allowed-most Flag n h = leb-true n 1 h
 allowed-most Bct n h = leb-true n 7 h
+allowed-most Cycles n h = leb-true n 18446744073709551615 h
 
-pub allowed-word : (rule : Rule) (n : ℕ) → allowed rule n ≡ true → n ≤ 4294967295
-allowed-word Unit n h = omega (arith, allowed-most Unit n h)
-allowed-word Address n h = omega (arith, allowed-most Address n h)
-allowed-word Word n h = allowed-most Word n h
-allowed-word Block n h = omega (arith, allowed-most Block n h)
-allowed-word (Retried c) n h = omega (arith, allowed-most (Retried c) n h)
-allowed-word From n h = omega (arith, allowed-most From n h)
-allowed-word (To from) n h = omega (arith, allowed-most (To from) n h)
-allowed-word Byte n h = omega (arith, allowed-most Byte n h)
-allowed-word Flag n h = omega (arith, allowed-most Flag n h)
-allowed-word Bct n h = omega (arith, allowed-most Bct n h)
+-- no rule allows more than 64 bits
+pub allowed-64-bits : (rule : Rule) (n : ℕ) → allowed rule n ≡ true → n ≤ 18446744073709551615
+allowed-64-bits Unit n h = omega (arith, allowed-most Unit n h)
+allowed-64-bits Address n h = omega (arith, allowed-most Address n h)
+allowed-64-bits Word n h = omega (arith, allowed-most Word n h)
+allowed-64-bits Block n h = omega (arith, allowed-most Block n h)
+allowed-64-bits (Retried c) n h = omega (arith, allowed-most (Retried c) n h)
+allowed-64-bits From n h = omega (arith, allowed-most From n h)
+allowed-64-bits (To from) n h = omega (arith, allowed-most (To from) n h)
+allowed-64-bits Byte n h = omega (arith, allowed-most Byte n h)
+allowed-64-bits Flag n h = omega (arith, allowed-most Flag n h)
+allowed-64-bits Bct n h = omega (arith, allowed-most Bct n h)
+allowed-64-bits Cycles n h = allowed-most Cycles n h
 
 -- the number that code read is at most what the field's rule allows
 pub most : (rule : Rule) (tape : List ℕ) (at : ℕ) {f : NumberRead} {v q : ℕ} → f ≡ fieldAt rule tape at → f ≡ Number v q → v ≤ mostOf rule

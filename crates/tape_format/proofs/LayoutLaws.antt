@@ -25,15 +25,15 @@ use Rattle.tape_format.specs.declared.RecordRead.the-variants as out
 use Rattle.number.specs.Number.{numberAt}
 use Rattle.tape_format.specs.Field.{allowed, fieldAt}
 use Rattle.order.specs.Flag.{flag}
-use Rattle.tape_format.specs.Record.{Layout, field, command, end, load, store, flush, order, answer, register, loaded, layoutOf, andThen, andCommand, fieldsAt, kindAt, recordAt, kindOf, fieldsOf, fits, fitsCommand}
+use Rattle.tape_format.specs.Record.{Layout, field, command, end, load, store, flush, order, answer, register, loaded, stamp, layoutOf, andThen, andCommand, fieldsAt, kindAt, recordAt, kindOf, fieldsOf, fits, fitsCommand}
 use Rattle.tape_format.specs.Refused.{Reads}
 use Rattle.tape_format.specs.Write.{valid}
-use Rattle.number.proofs.NumberLaws.{limit, limit-word, number-moves}
-use Rattle.tape_format.proofs.FieldLaws.{both-true, field-number, field-allowed, allowed-most, allowed-word}
+use Rattle.number.proofs.NumberLaws.{limit, limit-64-bits, number-moves}
+use Rattle.tape_format.proofs.FieldLaws.{both-true, field-number, field-allowed, allowed-most, allowed-64-bits}
 use Rattle.tape_format.proofs.ReadLaws.{then, of-kind}
 
 -- a command that a number has has that number
-number-of-command : (n : ℕ) (c : Command) → commandOf n ≡ Known c → commandNumber c ≡ n
+pub number-of-command : (n : ℕ) (c : Command) → commandOf n ≡ Known c → commandNumber c ≡ n
 unfolding commandOf commandNumber
 number-of-command n c e = go (eqb n 0) refl (eqb n 1) refl (eqb n 2) refl (eqb n 3) refl e
   where
@@ -45,7 +45,7 @@ number-of-command n c e = go (eqb n 0) refl (eqb n 1) refl (eqb n 2) refl (eqb n
     go false a false b false d true f e = let x : command-names.Copyback ≡ c = cc in rw (← x) (sym (eqb-true n 3 f))
     go false a false b false d false f e = absurd (let z : _≡_ {A = ℕ} 0 1 = cc in omega arith)
 
-command-small : (c : Command) → commandNumber c ≤ 3
+pub command-small : (c : Command) → commandNumber c ≤ 3
 unfolding commandNumber
 command-small command-names.Read = omega arith
 command-small command-names.ModifiedRead = omega arith
@@ -71,7 +71,7 @@ unfolding andCommand
 inv-command (Known c) at step r q e = (c, refl, e)
 inv-command Unknown at step r q e = absurd (let z : _≡_ {A = ℕ} 0 1 = cc in omega arith)
 
-inv-fits : (f : CommandFound) (rest : Command → Bool) → fitsCommand f rest ≡ true → (c : Command) × (f ≡ Known c) × (rest c ≡ true)
+pub inv-fits : (f : CommandFound) (rest : Command → Bool) → fitsCommand f rest ≡ true → (c : Command) × (f ≡ Known c) × (rest c ≡ true)
 unfolding fitsCommand
 inv-fits (Known c) rest e = (c, refl, e)
 inv-fits Unknown rest e = absurd (let z : _≡_ {A = ℕ} 0 1 = cc in omega arith)
@@ -141,16 +141,17 @@ case P k i a rest l p other e = go (eqb k i) refl e
         rw (y, ← x) p
     go false t e = other e
 
-by-kind : (P : ℕ → Layout → Type 0) → P 0 load → P 1 store → P 2 flush → P 3 order → P 4 answer → P 5 register → P 6 loaded → (k : ℕ) (l : Layout) → layoutOf k ≡ some l → P k l
+pub by-kind : (P : ℕ → Layout → Type 0) → P 0 load → P 1 store → P 2 flush → P 3 order → P 4 answer → P 5 register → P 6 loaded → P 8 stamp → (k : ℕ) (l : Layout) → layoutOf k ≡ some l → P k l
 unfolding layoutOf
-by-kind P p₀ p₁ p₂ p₃ p₄ p₅ p₆ k l e =
+by-kind P p₀ p₁ p₂ p₃ p₄ p₅ p₆ p₈ k l e =
     case P k 0 load _ l p₀
     (case P k 1 store _ l p₁
     (case P k 2 flush _ l p₂
     (case P k 3 order _ l p₃
     (case P k 4 answer _ l p₄
     (case P k 5 register _ l p₅
-    (case P k 6 loaded _ l p₆ (λ u. absurd (let z : _≡_ {A = ℕ} 0 1 = cc in omega arith))))))))
+    (case P k 6 loaded _ l p₆
+    (case P k 8 stamp _ l p₈ (λ u. absurd (let z : _≡_ {A = ℕ} 0 1 = cc in omega arith)))))))))
     e
 
 flag-back : (n : ℕ) → n ≤ 1 → flag (eqb n 1) ≡ n
@@ -165,7 +166,7 @@ flag-forth true = refl
 flag-forth false = refl
 
 faithful : (k : ℕ) (l : Layout) → layoutOf k ≡ some l → Faithful (λ ns. k ∷ ns) l
-unfolding load store flush order answer register loaded kindOf fieldsOf
+unfolding load store flush order answer register loaded stamp kindOf fieldsOf
 faithful =
     by-kind (λ k l. Faithful (λ ns. k ∷ ns) l)
     (λ u hu a ha. refl)
@@ -175,10 +176,11 @@ faithful =
     (λ f hf t ht a ha c hc. refl)
     (λ f hf t ht a ha w hw x hx b hb. rw (flag-back w (allowed-most Flag w hw)))
     (λ u hu v hv. refl)
+    (λ c hc. refl)
 
 -- a record's own layout makes it of its fields
-known : (r : Record) → (l : Layout) × (layoutOf (kindOf r) ≡ some l) × Makes l (fieldsOf r) r
-unfolding load store flush order answer register loaded kindOf fieldsOf layoutOf
+pub known : (r : Record) → (l : Layout) × (layoutOf (kindOf r) ≡ some l) × Makes l (fieldsOf r) r
+unfolding load store flush order answer register loaded stamp kindOf fieldsOf layoutOf
 known (rec.Load u a) = (load, refl, refl)
 known (rec.Store u a v) = (store, refl, refl)
 known (rec.Flush u b) = (flush, refl, refl)
@@ -186,6 +188,7 @@ known (rec.Order o) = (order, refl, (o .command, command-of-number (o .command),
 known (rec.Answer f t a c) = (answer, refl, refl)
 known (rec.Register f t a w x b) = (register, refl, ap (λ (g : Bool). rec.Register f t a g x b) (flag-forth w))
 known (rec.Loaded u v) = (loaded, refl, refl)
+known (rec.Stamp c) = (stamp, refl, refl)
 
 inv-kind : (o : Option Layout) (at : ℕ) (tape : List ℕ) (p : ℕ) (r : Record) (q : ℕ) → Option·elim o (out.Refused unknownKind at) (λ l. fieldsAt l tape p) ≡ out.Record r q → (l : Layout) × (o ≡ some l) × (fieldsAt l tape p ≡ out.Record r q)
 unfolding Option·elim
@@ -208,7 +211,7 @@ record-taken tape at r q e =
     let y : fieldsOf r ≡ ns = cc in
     (rw (x, y) (p, f, s), rw (x, o, y) h)
 
-valid-fits : (r : Record) (l : Layout) → layoutOf (kindOf r) ≡ some l → valid r ≡ true → fits l (fieldsOf r) ≡ true
+pub valid-fits : (r : Record) (l : Layout) → layoutOf (kindOf r) ≡ some l → valid r ≡ true → fits l (fieldsOf r) ≡ true
 unfolding valid Option·elim
 valid-fits r l o v = rw o at v
 
@@ -261,20 +264,20 @@ fits-small : (l : Layout) (ns : List ℕ) → fits l ns ≡ true → Small ns
 unfolding fits
 fits-small (field rule more) (n ∷ ns) h =
     let (a, g) = both-true (allowed rule n) _ h in
-    (limit-word n (allowed-word rule n a), fits-small (more n) ns g)
+    (limit-64-bits n (allowed-64-bits rule n a), fits-small (more n) ns g)
 fits-small (field rule more) [] h = tt
 fits-small (command more) (n ∷ ns) h =
     let (c, k, g) = inv-fits (commandOf n) _ h in
     let e : commandNumber c ≡ n = number-of-command n c k in
-    (limit-word n (omega (arith, command-small c)), fits-small (more c) ns g)
+    (limit-64-bits n (omega (arith, command-small c)), fits-small (more c) ns g)
 fits-small (command more) [] h = tt
 fits-small (end x) (n ∷ ns) h = absurd (let z : _≡_ {A = ℕ} 0 1 = cc in omega arith)
 fits-small (end x) [] h = tt
 
-kind-small : (k : ℕ) (l : Layout) → layoutOf k ≡ some l → k ≤ 6
-kind-small = by-kind (λ k l. k ≤ 6) (omega arith) (omega arith) (omega arith) (omega arith) (omega arith) (omega arith) (omega arith)
+kind-small : (k : ℕ) (l : Layout) → layoutOf k ≡ some l → k ≤ 8
+kind-small = by-kind (λ k l. k ≤ 8) (omega arith) (omega arith) (omega arith) (omega arith) (omega arith) (omega arith) (omega arith) (omega arith)
 
 pub valid-small : (r : Record) → valid r ≡ true → Small (kindOf r ∷ fieldsOf r)
 valid-small r v =
     let (l, o, m) = known r in
-    (limit-word (kindOf r) (omega (arith, kind-small (kindOf r) l o)), fits-small l (fieldsOf r) (valid-fits r l o v))
+    (limit-64-bits (kindOf r) (omega (arith, kind-small (kindOf r) l o)), fits-small l (fieldsOf r) (valid-fits r l o v))

@@ -6,4 +6,5 @@ pub mod RoundTrip
 pub mod RefusedLaws
 pub mod Examples
 pub mod RangeLaws
+pub mod LongLaws
 pub mod ReaderLaws

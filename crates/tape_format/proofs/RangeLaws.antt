@@ -17,11 +17,11 @@ use Rattle.order.proofs.CommandLaws.{command-of-number}
 use Rattle.number.specs.Number.{filled}
 use Rattle.tape_format.specs.declared.Record.{Record}
 use Rattle.tape_format.specs.declared.Record.the-variants as rec
-use Rattle.tape_format.specs.declared.Rule.the-variants.{Unit, Address, Word, Block, Retried, From, To, Byte, Flag, Bct}
+use Rattle.tape_format.specs.declared.Rule.the-variants.{Unit, Address, Word, Block, Retried, From, To, Byte, Flag, Bct, Cycles}
 use Rattle.tape_format.specs.Field.{retriedMost, allowed}
-use Rattle.tape_format.specs.Record.{load, store, flush, order, answer, register, loaded, layoutOf, recordTold, kindOf, fieldsOf, fits, fitsCommand}
+use Rattle.tape_format.specs.Record.{load, store, flush, order, answer, register, loaded, stamp, layoutOf, recordTold, kindOf, fieldsOf, fits, fitsCommand}
 use Rattle.tape_format.specs.Write.{valid, bytesOf, writtenOf, writtenRefusal, writtenCount, spaceAfter}
-use Rattle.tape_format.specs.Ranges.{IsAddress, IsWord, Retries, Ends, InRange, Answers, WritesExactly, ReadsExactly, RangesHold}
+use Rattle.tape_format.specs.Ranges.{IsAddress, IsWord, IsCycles, Retries, Ends, InRange, Answers, WritesExactly, ReadsExactly, RangesHold}
 use Rattle.tape_format.proofs.FieldLaws.{both-true, allowed-most}
 use Rattle.tape_format.proofs.WriteLaws.{word, byte, flag-allowed}
 use Rattle.tape_format.proofs.LayoutLaws.{record-taken, record-given}
@@ -76,7 +76,7 @@ retry Copyback true h = sym (h (inr refl))
 -- ---- a record is valid if and only if it is in range
 
 in-range : (r : Record) → valid r ≡ true → InRange r
-unfolding valid Option·elim layoutOf kindOf fieldsOf fits fitsCommand load store flush order answer register loaded InRange IsWord Retries
+unfolding valid Option·elim layoutOf kindOf fieldsOf fits fitsCommand load store flush order answer register loaded stamp InRange IsWord IsCycles Retries
 in-range (rec.Load u a) v =
     let (h, v) = both-true (allowed Unit u) _ v in
     let (k, v) = both-true (allowed Address a) _ v in
@@ -113,6 +113,7 @@ in-range (rec.Loaded u x) v =
     let (h, v) = both-true (allowed Unit u) _ v in
     let (k, v) = both-true (allowed Word x) _ v in
     (allowed-most Unit u h, allowed-most Word x k)
+in-range (rec.Stamp c) v = allowed-most Cycles c (both-true (allowed Cycles c) _ v .0)
 
 unit : (n : ℕ) → n ≤ 3 → allowed Unit n ≡ true
 unfolding allowed
@@ -130,8 +131,12 @@ bct : (n : ℕ) → n ≤ 7 → allowed Bct n ≡ true
 unfolding allowed
 bct n h = le-leb n 7 h
 
-range-valid : (r : Record) → InRange r → valid r ≡ true
-unfolding valid Option·elim layoutOf kindOf fieldsOf fits fitsCommand load store flush order answer register loaded InRange IsWord Retries
+cycles : (n : ℕ) → n ≤ 18446744073709551615 → allowed Cycles n ≡ true
+unfolding allowed
+cycles n h = le-leb n 18446744073709551615 h
+
+pub range-valid : (r : Record) → InRange r → valid r ≡ true
+unfolding valid Option·elim layoutOf kindOf fieldsOf fits fitsCommand load store flush order answer register loaded stamp InRange IsWord IsCycles Retries
 range-valid (rec.Load u a) h = rw (unit u (h .0), address a (h .1))
 range-valid (rec.Store u a x) h = rw (unit u (h .0), address a (h .1), word x (h .2))
 range-valid (rec.Flush u b) h = rw (unit u (h .0), block b (h .1))
@@ -139,6 +144,7 @@ range-valid (rec.Order o) h = rw (unit (o .unit) (h .0), command-of-number (o .c
 range-valid (rec.Answer f t a c) h = rw (from-end f t (h .0), to-end f t (h .0), byte a (h .1), byte c (h .2))
 range-valid (rec.Register f t a w x b) h = rw (from-end f t (h .0), to-end f t (h .0), byte a (h .1), flag-allowed w, word x (h .2), bct b (h .3))
 range-valid (rec.Loaded u x) h = rw (unit u (h .0), word x (h .1))
+range-valid (rec.Stamp c) h = rw (cycles c h)
 
 -- ---- the laws
 

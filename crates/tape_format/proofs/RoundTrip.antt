@@ -1,13 +1,12 @@
 -- Demand 2 for the tape: reading and writing are inverse. The statements are those of `specs/RoundTrip.antt`.
-use Prim.Native.Nat.{ℕ, suc, _+_, _-_, _≤_, _<_}
-use native.Mathlib.Numerals.{add-one}
-use native.Mathlib.Nat.{add-zero, le-refl}
+use Prim.Native.Nat.{ℕ, _+_, _-_, _≤_, _<_}
+use native.Mathlib.Nat.{le-refl}
 use native.Mathlib.Omega.{arith}
 use mathlib.Core.Path.{_≡_, refl, sym, ap, ap₂, _∙_}
 use mathlib.Core.List.{List, [], _∷_, _++_, append-assoc}
 use mathlib.Core.Bool.{Bool, true, false, cond}
 use lib.ListN.{length, take, drop, length-append, take-append-drop}
-use lib.Seq.{drop-cons, getD-append-seam, append-snoc, take-append-seam, drop-length, drop-drop}
+use lib.Seq.{take-append-seam, drop-length, drop-drop}
 use lib.Dec.{leb}
 use borrow.Author.Tests.{le-leb, lt-leb, eq-eqb}
 use Rattle.order.specs.Refusal.{fieldRange, noRoom}
@@ -20,22 +19,9 @@ use Rattle.tape_format.specs.Record.{kindOf, fieldsOf, recordAt}
 use Rattle.tape_format.specs.Refused.{Reads}
 use Rattle.tape_format.specs.Write.{valid, bytesOf, writtenOf, spaceAfter}
 use Rattle.tape_format.specs.RoundTrip.{ReadsBack, WritesBack, MovesOn, WrittenAs, ReadsAs, TapeReadsBack, TapeWritesBack}
-use Rattle.number.proofs.NumberLaws.{Stands, number-of-spelled, spelled-of-number, number-moves}
+use Rattle.number.proofs.StandsLaws.{Stands, stands-cut, stands-join, stands-in, stands-take}
+use Rattle.number.proofs.NumberLaws.{number-of-spelled, spelled-of-number, number-moves}
 use Rattle.tape_format.proofs.LayoutLaws.{Small, record-taken, record-given, finished-at-end, valid-small}
-
--- bytes that stand on the tape, cut and joined
-stands-cut : (s t tape : List ℕ) (p : ℕ) → Stands tape (s ++ t) p → Stands tape s p × Stands tape t (p + length s)
-stands-cut [] t tape p h = (tt, rw add-zero h)
-stands-cut (b ∷ s) t tape p h =
-    let c = stands-cut s t tape (p + 1) (h .2) in
-    let e : p + 1 + length s ≡ p + suc (length s) = omega arith in
-    ((h .0, h .1, c .0), rw e at (c .1))
-
-stands-join : (s t tape : List ℕ) (p : ℕ) → Stands tape s p → Stands tape t (p + length s) → Stands tape (s ++ t) p
-stands-join [] t tape p a b = rw add-zero at b
-stands-join (x ∷ s) t tape p a b =
-    let e : p + suc (length s) ≡ p + 1 + length s = omega arith in
-    (a .0, a .1, stands-join s t tape (p + 1) (a .2) (rw e at b))
 
 -- numbers that can be spelled are read from their spellings, and numbers that were read stand there spelled
 reads-of-stands : (ns tape : List ℕ) (p : ℕ) → Small ns → Stands tape (spellAll ns) p → Reads tape p ns (p + length (spellAll ns))
@@ -54,19 +40,6 @@ stands-of-reads (n ∷ ns) tape p q all w =
     let (s, d) = spelled-of-number n m tape p all e in
     let (t, g) = stands-of-reads ns tape m q all u in
     (stands-join (spell n) (spellAll ns) tape p s (rw d at t), g ∙ simp (d, length-append) (omega arith))
-
--- bytes that were put between others stand there, and bytes that stand there are a part of the tape
-stands-in : (s pre rest : List ℕ) → Stands (pre ++ (s ++ rest)) s (length pre)
-stands-in [] pre rest = tt
-stands-in (b ∷ s) pre rest =
-    let e : pre ++ (b ∷ []) ++ (s ++ rest) ≡ pre ++ b ∷ (s ++ rest) = append-snoc pre b (s ++ rest) in
-    let l : length (pre ++ (b ∷ [])) ≡ length pre + 1 = simp length-append in
-    (simp length-append (omega arith), getD-append-seam pre b (s ++ rest) 0, rw (e, l) at (stands-in s (pre ++ (b ∷ [])) rest))
-
-stands-take : (s tape : List ℕ) (p : ℕ) → Stands tape s p → take (length s) (drop p tape) ≡ s
-stands-take [] tape p h = refl
-stands-take (b ∷ s) tape p h =
-    rw (drop-cons tape p 0 (h .0), h .1) (ap (λ (l : List ℕ). b ∷ l) (rw add-one at (stands-take s tape (p + 1) (h .2))))
 
 -- a valid record is read from its bytes, and a record that was read is valid and stands there as its bytes
 pub read-of-bytes : (r : Record) (before after : List ℕ) → valid r ≡ true → recordAt (before ++ (bytesOf r ++ after)) (length before) ≡ read.Record r (length before + length (bytesOf r))

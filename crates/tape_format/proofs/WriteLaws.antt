@@ -9,14 +9,14 @@ use borrow.Author.Tests.{le-leb, lt-leb}
 use Rattle.order.specs.declared.Order.{Order}
 use Rattle.order.specs.Refusal.{fieldRange, noRoom}
 use Rattle.order.proofs.CommandLaws.{command-of-number}
-use Rattle.tape_format.specs.declared.Rule.the-variants.{Unit, Address, Word, Block, Retried, From, To, Byte, Flag, Bct}
+use Rattle.tape_format.specs.declared.Rule.the-variants.{Unit, Address, Word, Block, Retried, From, To, Byte, Flag, Bct, Cycles}
 use Rattle.tape_format.specs.declared.Record.{Record}
 use Rattle.tape_format.specs.declared.Record.the-variants as rec
 use Rattle.tape_format.specs.declared.Written.the-variants as wrote
 use Rattle.number.specs.Number.{spellAll, filled}
 use Rattle.tape_format.specs.Field.{allowed}
 use Rattle.order.specs.Flag.{flag}
-use Rattle.tape_format.specs.Record.{load, store, flush, order, answer, register, loaded, layoutOf, kindOf, fieldsOf, fits, fitsCommand}
+use Rattle.tape_format.specs.Record.{load, store, flush, order, answer, register, loaded, stamp, layoutOf, kindOf, fieldsOf, fits, fitsCommand}
 use Rattle.tape_format.specs.Write.{valid, bytesOf, writtenOf, spaceAfter}
 
 and-true : (a : Bool) → a && true ≡ a
@@ -67,6 +67,10 @@ valid-register from to aid write ra bct h k = rw (byte aid h, flag-allowed write
 pub valid-loaded : (u v : ℕ) → v ≤ 4294967295 → allowed Unit u ≡ valid (rec.Loaded u v)
 unfolding valid Option·elim layoutOf kindOf fieldsOf fits loaded
 valid-loaded u v h = rw (word v h, and-true (allowed Unit u))
+
+pub valid-stamp : (c : ℕ) → allowed Cycles c ≡ valid (rec.Stamp c)
+unfolding valid Option·elim layoutOf kindOf fieldsOf fits stamp
+valid-stamp c = rw (and-true (allowed Cycles c))
 
 -- the numbers that code spells are the record's
 pub bytes-of-numbers : (r : Record) (ns : List ℕ) → ns ≡ kindOf r ∷ fieldsOf r → spellAll ns ≡ bytesOf r

@@ -3,7 +3,7 @@
 use Prim.Native.Nat.{ℕ}
 use mathlib.Core.Path.{_≡_}
 use mathlib.Core.Bool.{Bool, true, false}
-use mathlib.Core.List.{List, [], _∷_, map}
+use mathlib.Core.List.{List, [], _∷_, _++_, map}
 use lib.ListN.{length, replicate}
 use Rattle.order.specs.declared.Command.{Command}
 use Rattle.order.specs.declared.Command.the-variants.{Read, ModifiedRead, Invalidate, Copyback}
@@ -32,6 +32,10 @@ toldOf bytes = recordTold 0 (recordAt bytes 0)
 unfoldable pub refusedAt : ℕ → ℕ → Told
 refusedAt number place = record { refusal = number; place = place; numbers = [] }
 
+-- 4,294,967,296, which is 2^32
+unfoldable pub twoTo32 : List ℕ
+twoTo32 = 0x80 ∷ 0x80 ∷ 0x80 ∷ 0x80 ∷ 0x10 ∷ []
+
 pub record Examples : Type 0 where
   pub kind0 : Spelled (0x00 ∷ 0x01 ∷ 0x48 ∷ []) (rec.Load 1 72)
   pub kind1 : Spelled (0x01 ∷ 0x02 ∷ 0x48 ∷ 0xAC ∷ 0x02 ∷ []) (rec.Store 2 72 300)
@@ -45,6 +49,8 @@ pub record Examples : Type 0 where
   pub kind5 : Spelled (0x05 ∷ 0x07 ∷ 0x06 ∷ 0x09 ∷ 0x01 ∷ 0xAC ∷ 0x02 ∷ 0x04 ∷ []) (rec.Register 7 6 9 true 300 4)
   pub registerRead : Spelled (0x05 ∷ 0x01 ∷ 0x03 ∷ 0x09 ∷ 0x00 ∷ 0xAC ∷ 0x02 ∷ 0x04 ∷ []) (rec.Register 1 3 9 false 300 4)
   pub kind6 : Spelled (0x06 ∷ 0x03 ∷ 0xAC ∷ 0x02 ∷ []) (rec.Loaded 3 300)
+  pub kind8 : Spelled (0x08 ∷ 0xAC ∷ 0x02 ∷ []) (rec.Stamp 300)
+  pub most8 : Spelled (0x08 ∷ replicate 9 0xFF ++ (0x01 ∷ [])) (rec.Stamp 0xFFFF_FFFF_FFFF_FFFF)
   -- each field at its limit
   pub limits :
       map (λ bytes. toldOf bytes .refusal)
@@ -97,8 +103,23 @@ pub record Examples : Type 0 where
       ≡ map (refusedAt 8) (1 ∷ 2 ∷ 2 ∷ 3 ∷ 4 ∷ 6 ∷ [])
   -- unit
   pub above6 : toldOf (0x06 ∷ 0x04 ∷ 0x00 ∷ []) ≡ refusedAt 8 1
-  -- kind 7; an address spelled badly; a value that is missing
-  pub unknown : toldOf (0x07 ∷ 0x00 ∷ []) ≡ refusedAt 7 0
+  -- "a well-spelled number above 2^32 - 1 is now refusal 8 in every older field": 2^32 as each field of the seven kinds, after fields of 0 (a `to` of 1)
+  pub long :
+      map toldOf
+      (map (λ before. before ++ twoTo32)
+      ((0x00 ∷ []) ∷ (0x00 ∷ 0x00 ∷ [])
+      ∷ (0x01 ∷ []) ∷ (0x01 ∷ 0x00 ∷ []) ∷ (0x01 ∷ 0x00 ∷ 0x00 ∷ [])
+      ∷ (0x02 ∷ []) ∷ (0x02 ∷ 0x00 ∷ [])
+      ∷ (0x03 ∷ []) ∷ (0x03 ∷ 0x00 ∷ []) ∷ (0x03 ∷ 0x00 ∷ 0x00 ∷ []) ∷ (0x03 ∷ 0x00 ∷ 0x00 ∷ 0x00 ∷ [])
+      ∷ (0x04 ∷ []) ∷ (0x04 ∷ 0x00 ∷ []) ∷ (0x04 ∷ 0x00 ∷ 0x01 ∷ []) ∷ (0x04 ∷ 0x00 ∷ 0x01 ∷ 0x00 ∷ [])
+      ∷ (0x05 ∷ []) ∷ (0x05 ∷ 0x00 ∷ []) ∷ (0x05 ∷ 0x00 ∷ 0x01 ∷ []) ∷ (0x05 ∷ 0x00 ∷ 0x01 ∷ 0x00 ∷ []) ∷ (0x05 ∷ 0x00 ∷ 0x01 ∷ 0x00 ∷ 0x00 ∷ []) ∷ (0x05 ∷ 0x00 ∷ 0x01 ∷ 0x00 ∷ 0x00 ∷ 0x00 ∷ [])
+      ∷ (0x06 ∷ []) ∷ (0x06 ∷ 0x00 ∷ [])
+      ∷ []))
+      ≡ map (refusedAt 8) (1 ∷ 2 ∷ 1 ∷ 2 ∷ 3 ∷ 1 ∷ 2 ∷ 1 ∷ 2 ∷ 3 ∷ 4 ∷ 1 ∷ 2 ∷ 3 ∷ 4 ∷ 1 ∷ 2 ∷ 3 ∷ 4 ∷ 5 ∷ 6 ∷ 1 ∷ 2 ∷ [])
+  -- "7 as a kind"; "7 for 7 and for 9 and above"
+  pub unknown : map toldOf ((0x07 ∷ 0x00 ∷ []) ∷ (0x09 ∷ 0x00 ∷ []) ∷ (0x0A ∷ 0x00 ∷ []) ∷ (0x88 ∷ 0x01 ∷ 0x00 ∷ []) ∷ twoTo32 ∷ []) ≡ replicate 5 (refusedAt 7 0)
+  -- a stamp whose tenth group is 2; an address spelled badly; a value that is missing
+  pub stampOver : toldOf (0x08 ∷ replicate 9 0xFF ++ (0x02 ∷ [])) ≡ refusedAt 6 1
   pub spelling : toldOf (0x00 ∷ 0x00 ∷ 0xC8 ∷ 0x84 ∷ 0x00 ∷ []) ≡ refusedAt 6 2
   pub missing : toldOf (0x01 ∷ 0x00 ∷ 0xC8 ∷ 0x04 ∷ []) ≡ refusedAt 5 4
   -- "or the given place if that lies past the end. A place exactly at the end of the tape means finished and is no refusal."

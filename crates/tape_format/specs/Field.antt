@@ -1,4 +1,4 @@
--- The fields of a record (document 01, "The tape"): which numbers each may hold, and refusal 8 for any other.
+-- The fields of a record (document 01, "The tape"; document 02, T-04): which numbers each may hold, and refusal 8 for any other.
 use Prim.Native.Nat.{ℕ, _%_}
 use mathlib.Core.List.{List}
 use mathlib.Core.Bool.{Bool, cond, not, _&&_}
@@ -9,7 +9,7 @@ use Rattle.order.specs.Refusal.{fieldRange}
 use Rattle.number.specs.declared.NumberRead.{NumberRead}
 use Rattle.number.specs.declared.NumberRead.the-variants.{Number, Refused}
 use Rattle.tape_format.specs.declared.Rule.{Rule}
-use Rattle.tape_format.specs.declared.Rule.the-variants.{Unit, Address, Word, Block, Retried, From, To, Byte, Flag, Bct}
+use Rattle.tape_format.specs.declared.Rule.the-variants.{Unit, Address, Word, Block, Retried, From, To, Byte, Flag, Bct, Cycles}
 use Rattle.number.specs.Number.{numberAt}
 
 -- "retried must be 0 for 2 and 3": an invalidate and a copyback
@@ -31,6 +31,7 @@ allowed (To from) n = leb n 7 && not (eqb n from)
 allowed Byte n = leb n 255
 allowed Flag n = leb n 1
 allowed Bct n = leb n 7
+allowed Cycles n = leb n 18446744073709551615
 
 -- a number that its rule does not allow is refusal 8, at its start; 5 and 6 come first
 unfoldable pub ruled : Rule → ℕ → NumberRead → NumberRead

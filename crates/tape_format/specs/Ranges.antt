@@ -1,4 +1,4 @@
--- The ranges of the table of kinds (document 01, "The tape"), each in its words, and that writing and reading keep to them exactly.
+-- The ranges of the table of kinds (document 01, "The tape"; document 02, T-04), each in its words, and that writing and reading keep to them exactly.
 use Prim.Native.Nat.{ℕ, _*_, _≤_, _<_}
 use mathlib.Core.Path.{_≡_}
 use mathlib.Core.Logic.{_⊎_, _≢_}
@@ -7,6 +7,8 @@ use mathlib.Core.List.{List, _∷_, _++_}
 use lib.ListN.{length, drop}
 use Rattle.order.specs.declared.Order.{Order}
 use Rattle.order.specs.Command.{commandNumber}
+use Rattle.number.specs.declared.NumberRead.the-variants.{Number}
+use Rattle.number.specs.Number.{numberAt}
 use Rattle.tape_format.specs.declared.Record.{Record}
 use Rattle.tape_format.specs.declared.Record.the-variants as rec
 use Rattle.tape_format.specs.declared.RecordRead.the-variants as read
@@ -21,6 +23,10 @@ IsAddress a = ((q : ℕ) × (a ≡ 4 * q)) × (a ≤ 2044)
 -- "Value and RA take any 32-bit number."
 unfoldable pub IsWord : ℕ → Type 0
 IsWord n = n ≤ 0xFFFF_FFFF
+
+-- "one 64-bit field"
+unfoldable pub IsCycles : ℕ → Type 0
+IsCycles n = n ≤ 0xFFFF_FFFF_FFFF_FFFF
 
 -- "retried must be 0 for 2 and 3"
 unfoldable pub Retries : Order → Type 0
@@ -39,6 +45,7 @@ InRange (rec.Order o) = (o .unit ≤ 3) × (o .block ≤ 63) × Retries o
 InRange (rec.Answer from to aid code) = Ends from to × (aid ≤ 255) × (code ≤ 255)
 InRange (rec.Register from to aid write ra bct) = Ends from to × (aid ≤ 255) × IsWord ra × (bct ≤ 7)
 InRange (rec.Loaded unit value) = (unit ≤ 3) × IsWord value
+InRange (rec.Stamp cycles) = IsCycles cycles
 
 -- Writing, in document 01's numbers: "Writing a record tests 8, then 9; it fills the first bytes of the lent space, answers how many, and the rest of the space
 -- stays." "A refused call gives its number, .. every other number 0 .., and leaves .. output space unchanged."
@@ -59,3 +66,14 @@ pub record ReadsExactly (tape : List ℕ) (at : ℕ) (r : Record) (next : ℕ) :
 
 unfoldable pub RangesHold : Type 0
 RangesHold = ((r : Record) (space : List ℕ) → WritesExactly r space) × ((tape : List ℕ) (at : ℕ) (r : Record) (next : ℕ) → ReadsExactly tape at r next)
+
+-- "7 for 7 and for 9 and above" (document 02, T-04): a well-spelled number that no kind has
+unfoldable pub RefusesKinds : Type 0
+RefusesKinds = (tape : List ℕ) (at v next : ℕ) → numberAt tape at ≡ Number v next → (v ≡ 7) ⊎ (9 ≤ v) → recordAt tape at ≡ read.Refused 7 at
+
+-- "a well-spelled number above 2^32 - 1 is now refusal 8 in every older field": v in the place of the field n of a record of the kinds 0 to 6, where its kind and
+-- the fields before n stand
+unfoldable pub RefusesLong : Type 0
+RefusesLong =
+    (tape : List ℕ) (at : ℕ) (r : Record) (before after : List ℕ) (n place v next : ℕ) → InRange r → kindOf r ≤ 6 → fieldsOf r ≡ before ++ n ∷ after
+    → Reads tape at (kindOf r ∷ before) place → numberAt tape place ≡ Number v next → 0xFFFF_FFFF < v → recordAt tape at ≡ read.Refused 8 place

@@ -1,4 +1,4 @@
--- Records on the tape (document 01, "The tape"): the table of kinds and their fields, and reading by it, number by number.
+-- Records on the tape (document 01, "The tape"; document 02, T-04): the table of kinds and their fields, and reading by it, number by number.
 use Prim.Native.Nat.{ℕ}
 use mathlib.Core.List.{List, [], _∷_}
 use mathlib.Core.Option.{Option, none, some, Option·elim}
@@ -14,7 +14,7 @@ use Rattle.order.specs.Refusal.{accepted, unknownKind, fieldRange}
 use Rattle.number.specs.declared.NumberRead.{NumberRead}
 use Rattle.number.specs.declared.NumberRead.the-variants.{Number, Refused}
 use Rattle.tape_format.specs.declared.Rule.{Rule}
-use Rattle.tape_format.specs.declared.Rule.the-variants.{Unit, Address, Word, Block, Retried, From, To, Byte, Flag, Bct}
+use Rattle.tape_format.specs.declared.Rule.the-variants.{Unit, Address, Word, Block, Retried, From, To, Byte, Flag, Bct, Cycles}
 use Rattle.tape_format.specs.declared.Record.{Record}
 use Rattle.tape_format.specs.declared.Record.the-variants as rec
 use Rattle.tape_format.specs.declared.RecordRead.{RecordRead}
@@ -54,7 +54,11 @@ register =
 unfoldable pub loaded : Layout
 loaded = field Unit λ unit. field Word λ value. end (rec.Loaded unit value)
 
--- the layout that a kind has; a kind above 6 has none
+-- "A new kind 8, stamp, has one 64-bit field"
+unfoldable pub stamp : Layout
+stamp = field Cycles λ cycles. end (rec.Stamp cycles)
+
+-- the layout that a kind has; "7 for 7 and for 9 and above"
 unfoldable pub layoutOf : ℕ → Option Layout
 layoutOf kind =
     cond (eqb kind 0) (some load)
@@ -63,7 +67,8 @@ layoutOf kind =
     (cond (eqb kind 3) (some order)
     (cond (eqb kind 4) (some answer)
     (cond (eqb kind 5) (some register)
-    (cond (eqb kind 6) (some loaded) none))))))
+    (cond (eqb kind 6) (some loaded)
+    (cond (eqb kind 8) (some stamp) none)))))))
 
 -- the next step with the number and the place after it, or the refusal: "the first bad number ends it"
 unfoldable pub andThen : NumberRead → (ℕ → ℕ → RecordRead) → RecordRead
@@ -98,6 +103,7 @@ kindOf (rec.Order o) = 3
 kindOf (rec.Answer from to aid code) = 4
 kindOf (rec.Register from to aid write ra bct) = 5
 kindOf (rec.Loaded unit value) = 6
+kindOf (rec.Stamp cycles) = 8
 
 unfoldable pub fieldsOf : Record → List ℕ
 fieldsOf (rec.Load unit address) = unit ∷ address ∷ []
@@ -107,6 +113,7 @@ fieldsOf (rec.Order o) = o .unit ∷ commandNumber (o .command) ∷ o .block ∷
 fieldsOf (rec.Answer from to aid code) = from ∷ to ∷ aid ∷ code ∷ []
 fieldsOf (rec.Register from to aid write ra bct) = from ∷ to ∷ aid ∷ flag write ∷ ra ∷ bct ∷ []
 fieldsOf (rec.Loaded unit value) = unit ∷ value ∷ []
+fieldsOf (rec.Stamp cycles) = cycles ∷ []
 
 -- reading at a place in document 01's numbers: a record's are its kind and fields; "finished" is no refusal, has no numbers, and stays at the place
 unfoldable pub recordTold : ℕ → RecordRead → Told

@@ -14,6 +14,7 @@ pub enum Rule {
     Byte,
     Flag,
     Bct,
+    Cycles,
 }
 
 pub enum Record {
@@ -36,6 +37,7 @@ pub enum Record {
         bct: u8,
     },
     Loaded(u8, u32),
+    Stamp(u64),
 }
 
 // A record with the place after it, the tape's end, or the number of the refusal with its place.

@@ -1,5 +1,6 @@
 // The numbers of a row, and the numbers and bytes of an answer.
 use libc::STDOUT_FILENO;
+use std::num::wrapping_add_u64;
 
 // The numbers of a row: the first `count` of `values`, and in `small` what 32 bits hold of them. `inside` is true behind a digit.
 pub(crate) struct Row {
@@ -18,12 +19,12 @@ fn digit(letter: u8) -> u64 {
     }
 }
 
-// A number with one digit more.
+// A number with one digit more, in 64 bits.
 fn longer(head: u64, digit: u64, hex: bool) -> u64 {
     if hex {
         return 16 * (head % 1152921504606846976) + digit % 16;
     }
-    10 * (head % 1152921504606846976) + digit % 16
+    wrapping_add_u64(10 * (head % 1844674407370955162), digit)
 }
 
 // The row with one byte more, of which this is the digit.

@@ -26,6 +26,9 @@ enum-told-3 c = search needs
 enum-told-4 : tie.Need-enum-told-4
 enum-told-4 c = search needs
 
+enum-told-5 : tie.Need-enum-told-5
+enum-told-5 c = search needs
+
 returns : tie.Need-returns
 unfolding accessOf
 returns c = ap accessOf (sym (c .before .item .given .1))
@@ -54,6 +57,10 @@ returns-7 : tie.Need-returns-7
 unfolding accessOf
 returns-7 c = search needs
 
+returns-8 : tie.Need-returns-8
+unfolding accessOf
+returns-8 c = search needs
+
 pub access-of-spec : {M : Type 1} → statement M
 access-of-spec =
     tie.close
@@ -65,10 +72,12 @@ access-of-spec =
     enum-told-2
     enum-told-3
     enum-told-4
+    enum-told-5
     returns
     returns-2
     returns-3
     returns-4
     returns-5
     returns-6
-    returns-7)
+    returns-7
+    returns-8)

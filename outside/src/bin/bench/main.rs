@@ -127,11 +127,30 @@ fn random_records(random: &mut Random, count: usize) -> Vec<[u64; 7]> {
         .collect()
 }
 
+/// Records of the kinds 0 to 6 whose numbers all have one byte.
+fn short_records(random: &mut Random, count: usize) -> Vec<[u64; 7]> {
+    (0..count)
+        .map(|_| {
+            let r = |random: &mut Random, n: u32| random.below(n) as u64;
+            let from = r(random, 8);
+            match random.below(7) {
+                0 => [0, r(random, 4), 4 * r(random, 32), 0, 0, 0, 0],
+                1 => [1, r(random, 4), 4 * r(random, 32), r(random, 128), 0, 0, 0],
+                2 => [2, r(random, 4), r(random, 64), 0, 0, 0, 0],
+                3 => [3, r(random, 4), r(random, 2), r(random, 64), r(random, 2), 0, 0],
+                4 => [4, from, (from + 1 + r(random, 7)) % 8, r(random, 128), r(random, 128), 0, 0],
+                5 => [5, from, (from + 1 + r(random, 7)) % 8, r(random, 128), r(random, 2), r(random, 128), r(random, 8)],
+                _ => [6, r(random, 4), r(random, 128), 0, 0, 0, 0],
+            }
+        })
+        .collect()
+}
+
 fn bytes_of(records: &[[u64; 7]]) -> Vec<u8> {
     let mut tape = Vec::new();
     for n in records {
-        let count = tape::field_count(n[0] as u32).expect("a kind of the table");
-        let record = tape::Record { kind: n[0] as u32, fields: n[1..=count].iter().map(|&f| f as u32).collect() };
+        let count = tape::field_count(n[0]).expect("a kind of the table");
+        let record = tape::Record { kind: n[0], fields: n[1..=count].to_vec() };
         tape.extend(tape::write(&record, 40).expect("a record in its ranges"));
     }
     tape
@@ -143,7 +162,7 @@ fn read_all(tape: &[u8], read: impl Fn(&[u8], usize, &mut usize, &mut [u64]) -> 
         let mut next = 0;
         let code = read(tape, place, &mut next, &mut numbers);
         assert_eq!(code, 0);
-        sum = sum.wrapping_add(numbers.iter().sum::<u64>() + next as u64);
+        sum = numbers.iter().fold(sum, |sum, &n| sum.wrapping_add(n)).wrapping_add(next as u64);
         place = next;
     }
     sum
@@ -159,36 +178,72 @@ fn write_all(records: &[[u64; 7]], write: impl Fn(&[u64], &mut [u8], &mut usize)
     sum
 }
 
-fn tape_rows() {
-    let mut random = Random::new(77);
-    let records = random_records(&mut random, 9_000);
-    let tape = bytes_of(&records);
+fn reading_row(name: &str, records: &[[u64; 7]]) {
+    let tape = bytes_of(records);
     let [proved, rust] = measure::<2>(records.len(), |n| {
         let tape = black_box(&tape[..]);
         if n == 0 { read_all(tape, archive::read_record) } else { read_all(tape, records::trainer_read_record) }
     });
-    row("read_record", proved, rust, None);
+    row(name, proved, rust, None);
+}
+
+fn writing_row(name: &str, records: &[[u64; 7]]) {
     let [proved, rust] = measure::<2>(records.len(), |n| {
-        let records = black_box(&records[..]);
+        let records = black_box(records);
         if n == 0 { write_all(records, archive::write_record) } else { write_all(records, records::trainer_write_record) }
     });
-    row("write_record", proved, rust, None);
-    let mut full: Vec<[u64; 7]> = Vec::new();
-    let mut tape = Vec::new();
-    for n in random_records(&mut random, 30_000) {
+    row(name, proved, rust, None);
+}
+
+/// A drill of as many of these records as the longest tape has room for.
+fn drill_row(what: &str, records: &[[u64; 7]]) {
+    let (mut tape, mut count) = (Vec::new(), 0);
+    for &n in records {
         let more = bytes_of(&[n]);
         if tape.len() + more.len() <= 65_536 {
             tape.extend(more);
-            full.push(n);
+            count += 1;
         }
     }
     let mut text = vec![0u8; 1 << 20];
-    let [proved, rust] = measure::<2>(full.len(), |n| {
-        let mut count = 0;
-        let code = if n == 0 { archive::drill(black_box(&tape), &mut text, &mut count) } else { records::trainer_drill(black_box(&tape), &mut text, &mut count) };
-        code as u64 + text[..count].iter().map(|&b| b as u64).sum::<u64>() + count as u64
+    let [proved, rust] = measure::<2>(count, |n| {
+        let mut written = 0;
+        let code = if n == 0 { archive::drill(black_box(&tape), &mut text, &mut written) } else { records::trainer_drill(black_box(&tape), &mut text, &mut written) };
+        code as u64 + text[..written].iter().map(|&b| b as u64).sum::<u64>() + written as u64
     });
-    row(&format!("drill of {} bytes, for each of its {} records", tape.len(), full.len()), proved, rust, None);
+    row(&format!("drill of {} bytes{what}, for each of its {count} records", tape.len()), proved, rust, None);
+}
+
+fn tape_rows() {
+    let mut random = Random::new(77);
+    let records = random_records(&mut random, 9_000);
+    reading_row("read_record", &records);
+    writing_row("write_record", &records);
+    drill_row("", &random_records(&mut random, 30_000));
+    let short = short_records(&mut random, 9_000);
+    reading_row("read_record, numbers of one byte", &short);
+    writing_row("write_record, numbers of one byte", &short);
+}
+
+/// Whether the library reads stamps. One from before T-04 does not, and all other rows can be measured with it.
+fn has_stamps() -> bool {
+    archive::read_record(&[8, 0], 0, &mut 0, &mut [0; 7]) == 0
+}
+
+/// Stamps of numbers from 2^63 up, each divided by 2 fewer than `shifts` times.
+fn stamps(random: &mut Random, shifts: u32, count: usize) -> Vec<[u64; 7]> {
+    (0..count).map(|_| [8, (random.wide() | 1 << 63) >> random.below(shifts), 0, 0, 0, 0, 0]).collect()
+}
+
+fn stamp_rows() {
+    let mut random = Random::new(88);
+    let any = stamps(&mut random, 64, 9_000);
+    let long = stamps(&mut random, 1, 9_000);
+    reading_row("read_record, stamps of one to ten groups", &any);
+    reading_row("read_record, stamps of ten groups", &long);
+    writing_row("write_record, stamps of one to ten groups", &any);
+    writing_row("write_record, stamps of ten groups", &long);
+    drill_row(" of stamps", &stamps(&mut random, 64, 30_000));
 }
 
 /// A receiver with its store and the space for completions, as a caller holds them.
@@ -318,8 +373,7 @@ fn numbers_row<T>(name: &str, inputs: &[T], work: impl Fn(bool, &[T]) -> u64) {
 
 fn bus_rows() {
     let mut random = Random::new(123);
-    let wide = |random: &mut Random| u64::from(random.next()) << 32 | u64::from(random.next());
-    let words: Vec<(u64, u32)> = (0..40_000).map(|_| (wide(&mut random), random.below(256))).collect();
+    let words: Vec<(u64, u32)> = (0..40_000).map(|_| (random.wide(), random.below(256))).collect();
     numbers_row("parity", &words, |proved, words| {
         let parity = if proved { archive::parity } else { bus::trainer_parity };
         words.iter().map(|&(word, _)| u64::from(parity(word))).sum()
@@ -489,6 +543,11 @@ fn main() {
         .collect();
     calls_row("random loads and stores", &[], &mix);
     tape_rows();
+    if has_stamps() {
+        stamp_rows();
+    } else {
+        println!("(this library has no stamps)");
+    }
     message_rows();
     interrupt_rows();
     bus_rows();

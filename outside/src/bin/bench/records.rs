@@ -3,26 +3,32 @@ use crate::packed;
 
 /// The number at a place and the place after it, or the number of refusal.
 #[inline]
-fn number(tape: &[u8], at: usize) -> Result<(u32, usize), u32> {
-    let Some(&first) = tape.get(at) else { return Err(5) };
-    if first < 128 {
-        return Ok((first as u32, at + 1));
+fn number(tape: &[u8], at: usize) -> Result<(u64, usize), u32> {
+    match tape.get(at) {
+        None => Err(5),
+        Some(&first) if first < 128 => Ok((first as u64, at + 1)),
+        Some(&first) => longer(tape, at, first),
     }
-    let mut sum = first as u32 & 127;
-    for group in 1..4 {
+}
+
+/// A number whose first group is not its last. Not inlined: this loop in the place of each field makes reading slower.
+#[inline(never)]
+fn longer(tape: &[u8], at: usize, first: u8) -> Result<(u64, usize), u32> {
+    let mut sum = first as u64 & 127;
+    for group in 1..9 {
         let Some(&byte) = tape.get(at + group) else { return Err(5) };
         if byte == 0 {
             return Err(6);
         }
-        sum |= (byte as u32 & 127) << (7 * group);
+        sum |= (byte as u64 & 127) << (7 * group);
         if byte < 128 {
             return Ok((sum, at + group + 1));
         }
     }
-    match tape.get(at + 4) {
+    match tape.get(at + 9) {
         None => Err(5),
-        Some(&byte) if byte == 0 || byte > 15 => Err(6),
-        Some(&byte) => Ok((sum | (byte as u32) << 28, at + 5)),
+        Some(1) => Ok((sum | 1 << 63, at + 10)),
+        Some(_) => Err(6),
     }
 }
 
@@ -36,20 +42,26 @@ struct Reader<'a> {
 
 impl Reader<'_> {
     #[inline]
-    fn field(&mut self, good: impl Fn(u32) -> bool) -> Result<u64, Refused> {
+    fn field(&mut self, good: impl Fn(u64) -> bool) -> Result<u64, Refused> {
         match number(self.tape, self.at) {
             Err(refusal) => Err((refusal, self.at)),
             Ok((n, _)) if !good(n) => Err((8, self.at)),
             Ok((n, next)) => {
                 self.at = next;
-                Ok(n as u64)
+                Ok(n)
             }
         }
     }
 
     #[inline]
-    fn upto(&mut self, most: u32) -> Result<u64, Refused> {
+    fn upto(&mut self, most: u64) -> Result<u64, Refused> {
         self.field(|n| n <= most)
+    }
+
+    /// Any number of 32 bits.
+    #[inline]
+    fn word(&mut self) -> Result<u64, Refused> {
+        self.upto(u32::MAX as u64)
     }
 
     #[inline]
@@ -64,7 +76,7 @@ pub fn read(tape: &[u8], place: usize) -> Result<([u64; 7], usize), Refused> {
     let mut r = Reader { tape, at: place };
     let (kind, next) = number(tape, place).map_err(|refusal| (refusal, place))?;
     r.at = next;
-    let mut n = [kind as u64, 0, 0, 0, 0, 0, 0];
+    let mut n = [kind, 0, 0, 0, 0, 0, 0];
     match kind {
         0 => {
             n[1] = r.upto(3)?;
@@ -73,7 +85,7 @@ pub fn read(tape: &[u8], place: usize) -> Result<([u64; 7], usize), Refused> {
         1 => {
             n[1] = r.upto(3)?;
             n[2] = r.address()?;
-            n[3] = r.upto(u32::MAX)?;
+            n[3] = r.word()?;
         }
         2 => {
             n[1] = r.upto(3)?;
@@ -83,25 +95,26 @@ pub fn read(tape: &[u8], place: usize) -> Result<([u64; 7], usize), Refused> {
             n[1] = r.upto(3)?;
             n[2] = r.upto(3)?;
             n[3] = r.upto(63)?;
-            n[4] = r.upto((n[2] < 2) as u32)?;
+            n[4] = r.upto((n[2] < 2) as u64)?;
         }
         4 | 5 => {
             n[1] = r.upto(7)?;
             let from = n[1];
-            n[2] = r.field(|to| to <= 7 && to as u64 != from)?;
+            n[2] = r.field(|to| to <= 7 && to != from)?;
             n[3] = r.upto(255)?;
             if kind == 4 {
                 n[4] = r.upto(255)?;
             } else {
                 n[4] = r.upto(1)?;
-                n[5] = r.upto(u32::MAX)?;
+                n[5] = r.word()?;
                 n[6] = r.upto(7)?;
             }
         }
         6 => {
             n[1] = r.upto(3)?;
-            n[2] = r.upto(u32::MAX)?;
+            n[2] = r.word()?;
         }
+        8 => n[1] = r.upto(u64::MAX)?,
         _ => return Err((7, place)),
     }
     Ok((n, r.at))
@@ -142,6 +155,7 @@ fn valid(n: &[u64; 7]) -> Result<usize, u32> {
         4 => (4, n[1] <= 7 && n[2] <= 7 && n[1] != n[2] && n[3] <= 255 && n[4] <= 255),
         5 => (6, n[1] <= 7 && n[2] <= 7 && n[1] != n[2] && n[3] <= 255 && n[4] <= 1 && n[5] <= word && n[6] <= 7),
         6 => (2, n[1] <= 3 && n[2] <= word),
+        8 => (1, true),
         _ => return Err(7),
     };
     if good {
@@ -158,7 +172,8 @@ pub fn trainer_write_record(numbers: &[u64], space: &mut [u8], written: &mut usi
         Ok(count) => count,
         Err(refusal) => return refusal,
     };
-    let mut bytes = [0u8; 35];
+    // A register access has the most bytes, 12; a stamp has up to 11.
+    let mut bytes = [0u8; 12];
     let mut at = 0;
     for &number in &n[..=count] {
         let mut left = number;

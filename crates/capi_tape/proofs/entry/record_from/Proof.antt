@@ -87,15 +87,20 @@ returns-8 c = rw (eq-eqb _ 7 (c .before .before .before .before .before .before 
 
 returns-9 : tie.Need-returns-9
 unfolding recordFrom kindFrom
-returns-9 c = rw (
+returns-9 c = rw (eq-eqb _ 7 (c .before .before .before .before .before .before .if1 .left), c .match .keys8)
+
+returns-10 : tie.Need-returns-10
+unfolding recordFrom kindFrom
+returns-10 c = rw (
   eq-eqb _ 7 (c .before .before .before .before .before .before .if1 .left),
-  ne-eqb _ 0 (c .match .rest .0 .0 .0 .0 .0 .0 .1),
-  ne-eqb _ 1 (c .match .rest .0 .0 .0 .0 .0 .1),
-  ne-eqb _ 2 (c .match .rest .0 .0 .0 .0 .1),
-  ne-eqb _ 3 (c .match .rest .0 .0 .0 .1),
-  ne-eqb _ 4 (c .match .rest .0 .0 .1),
-  ne-eqb _ 5 (c .match .rest .0 .1),
-  ne-eqb _ 6 (c .match .rest .1),
+  ne-eqb _ 0 (c .match .rest .0 .0 .0 .0 .0 .0 .0 .1),
+  ne-eqb _ 1 (c .match .rest .0 .0 .0 .0 .0 .0 .1),
+  ne-eqb _ 2 (c .match .rest .0 .0 .0 .0 .0 .1),
+  ne-eqb _ 3 (c .match .rest .0 .0 .0 .0 .1),
+  ne-eqb _ 4 (c .match .rest .0 .0 .0 .1),
+  ne-eqb _ 5 (c .match .rest .0 .0 .1),
+  ne-eqb _ 6 (c .match .rest .0 .1),
+  ne-eqb _ 8 (c .match .rest .1),
 )
 
 pub record-from-spec : {M : Type 1} → statement M
@@ -126,4 +131,5 @@ record-from-spec =
     returns-6
     returns-7
     returns-8
-    returns-9)
+    returns-9
+    returns-10)

@@ -37,6 +37,9 @@ enum-told-7 c = search needs
 enum-told-8 : tie.Need-enum-told-8
 enum-told-8 c = search needs
 
+enum-told-9 : tie.Need-enum-told-9
+enum-told-9 c = search needs
+
 returns : tie.Need-returns
 unfolding allowed
 returns c = rw (c .enum-told .given .1)
@@ -77,6 +80,10 @@ returns-10 : tie.Need-returns-10
 unfolding allowed
 returns-10 c = rw (c .enum-told8 .given .1)
 
+returns-11 : tie.Need-returns-11
+unfolding allowed
+returns-11 c = rw (c .enum-told9 .given .1)
+
 pub allows-spec : {M : Type 1} → statement M
 allows-spec =
     tie.close
@@ -92,6 +99,7 @@ allows-spec =
     enum-told-6
     enum-told-7
     enum-told-8
+    enum-told-9
     returns
     returns-2
     returns-3
@@ -101,4 +109,5 @@ allows-spec =
     returns-7
     returns-8
     returns-9
-    returns-10)
+    returns-10
+    returns-11)

@@ -27,6 +27,9 @@ read-register-requires c κs = search needs
 read-loaded-requires : tie.Need-read-loaded-requires
 read-loaded-requires c κs = search needs
 
+read-stamp-requires : tie.Need-read-stamp-requires
+read-stamp-requires c κs = search needs
+
 returns : tie.Need-returns
 unfolding layoutOf
 returns c = of-kind _ _ _ _ _ (rw (c .before .match .keys1)) (c .read-load .ensures)
@@ -57,10 +60,14 @@ returns-7 c = of-kind _ _ _ _ _ (rw (c .before .match .keys7)) (c .read-loaded .
 
 returns-8 : tie.Need-returns-8
 unfolding layoutOf
-returns-8 c =
+returns-8 c = of-kind _ _ _ _ _ (rw (c .before .match .keys8)) (c .read-stamp .ensures)
+
+returns-9 : tie.Need-returns-9
+unfolding layoutOf
+returns-9 c =
     of-no-kind _ _ _ _
     (rw
-    (ne-eqb _ 0 (c .match .rest .0 .0 .0 .0 .0 .0 .1), ne-eqb _ 1 (c .match .rest .0 .0 .0 .0 .0 .1), ne-eqb _ 2 (c .match .rest .0 .0 .0 .0 .1), ne-eqb _ 3 (c .match .rest .0 .0 .0 .1), ne-eqb _ 4 (c .match .rest .0 .0 .1), ne-eqb _ 5 (c .match .rest .0 .1), ne-eqb _ 6 (c .match .rest .1)))
+    (ne-eqb _ 0 (c .match .rest .0 .0 .0 .0 .0 .0 .0 .1), ne-eqb _ 1 (c .match .rest .0 .0 .0 .0 .0 .0 .1), ne-eqb _ 2 (c .match .rest .0 .0 .0 .0 .0 .1), ne-eqb _ 3 (c .match .rest .0 .0 .0 .0 .1), ne-eqb _ 4 (c .match .rest .0 .0 .0 .1), ne-eqb _ 5 (c .match .rest .0 .0 .1), ne-eqb _ 6 (c .match .rest .0 .1), ne-eqb _ 8 (c .match .rest .1)))
 
 pub read-kind-spec : {M : Type 1} → statement M
 read-kind-spec =
@@ -73,6 +80,7 @@ read-kind-spec =
     read-answer-requires
     read-register-requires
     read-loaded-requires
+    read-stamp-requires
     returns
     returns-2
     returns-3
@@ -80,4 +88,5 @@ read-kind-spec =
     returns-5
     returns-6
     returns-7
-    returns-8)
+    returns-8
+    returns-9)

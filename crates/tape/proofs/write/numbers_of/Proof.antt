@@ -9,17 +9,14 @@ use Rattle.tape.proofs.write.numbers_of.Tie as tie
 enum-known-item : tie.Need-enum-known-item
 enum-known-item c = search needs
 
-cast-t27 : tie.Need-cast-t27
-cast-t27 c = search needs
-
 cast-t28 : tie.Need-cast-t28
 cast-t28 c = search needs
 
+cast-t29 : tie.Need-cast-t29
+cast-t29 c = search needs
+
 enum-known-item-2 : tie.Need-enum-known-item-2
 enum-known-item-2 c = search needs
-
-cast-t30 : tie.Need-cast-t30
-cast-t30 c = search needs
 
 cast-t31 : tie.Need-cast-t31
 cast-t31 c = search needs
@@ -27,14 +24,17 @@ cast-t31 c = search needs
 cast-t32 : tie.Need-cast-t32
 cast-t32 c = search needs
 
+cast-t33 : tie.Need-cast-t33
+cast-t33 c = search needs
+
 enum-known-item-3 : tie.Need-enum-known-item-3
 enum-known-item-3 c = search needs
 
-cast-t34 : tie.Need-cast-t34
-cast-t34 c = search needs
-
 cast-t35 : tie.Need-cast-t35
 cast-t35 c = search needs
+
+cast-t36 : tie.Need-cast-t36
+cast-t36 c = search needs
 
 enum-known-item-4 : tie.Need-enum-known-item-4
 enum-known-item-4 c = search needs
@@ -45,20 +45,17 @@ command-number-requires c κs = search needs
 flag-number-requires : tie.Need-flag-number-requires
 flag-number-requires c κs = search needs
 
-cast-t37 : tie.Need-cast-t37
-cast-t37 c = search needs
-
 cast-t38 : tie.Need-cast-t38
 cast-t38 c = search needs
 
 cast-t39 : tie.Need-cast-t39
 cast-t39 c = search needs
 
+cast-t40 : tie.Need-cast-t40
+cast-t40 c = search needs
+
 enum-known-item-5 : tie.Need-enum-known-item-5
 enum-known-item-5 c = search needs
-
-cast-t41 : tie.Need-cast-t41
-cast-t41 c = search needs
 
 cast-t42 : tie.Need-cast-t42
 cast-t42 c = search needs
@@ -69,14 +66,14 @@ cast-t43 c = search needs
 cast-t44 : tie.Need-cast-t44
 cast-t44 c = search needs
 
+cast-t45 : tie.Need-cast-t45
+cast-t45 c = search needs
+
 enum-known-item-6 : tie.Need-enum-known-item-6
 enum-known-item-6 c = search needs
 
 flag-number-requires-2 : tie.Need-flag-number-requires-2
 flag-number-requires-2 c κs = search needs
-
-cast-t46 : tie.Need-cast-t46
-cast-t46 c = search needs
 
 cast-t47 : tie.Need-cast-t47
 cast-t47 c = search needs
@@ -90,14 +87,20 @@ cast-t49 c = search needs
 cast-t50 : tie.Need-cast-t50
 cast-t50 c = search needs
 
+cast-t51 : tie.Need-cast-t51
+cast-t51 c = search needs
+
 enum-known-item-7 : tie.Need-enum-known-item-7
 enum-known-item-7 c = search needs
 
-cast-t52 : tie.Need-cast-t52
-cast-t52 c = search needs
-
 cast-t53 : tie.Need-cast-t53
 cast-t53 c = search needs
+
+cast-t54 : tie.Need-cast-t54
+cast-t54 c = search needs
+
+enum-known-item-8 : tie.Need-enum-known-item-8
+enum-known-item-8 c = search needs
 
 returns : tie.Need-returns
 unfolding kindOf fieldsOf padded
@@ -127,45 +130,51 @@ returns-7 : tie.Need-returns-7
 unfolding kindOf fieldsOf padded
 returns-7 c = rw (c .before .item7 .given .1) (refl, refl)
 
+returns-8 : tie.Need-returns-8
+unfolding kindOf fieldsOf padded
+returns-8 c = rw (c .before .item8 .given .1) (refl, refl)
+
 pub numbers-of-spec : {M : Type 1} → statement M
 numbers-of-spec =
     tie.close
     (tie.spec
     enum-known-item
-    cast-t27
     cast-t28
+    cast-t29
     enum-known-item-2
-    cast-t30
     cast-t31
     cast-t32
+    cast-t33
     enum-known-item-3
-    cast-t34
     cast-t35
+    cast-t36
     enum-known-item-4
     command-number-requires
     flag-number-requires
-    cast-t37
     cast-t38
     cast-t39
+    cast-t40
     enum-known-item-5
-    cast-t41
     cast-t42
     cast-t43
     cast-t44
+    cast-t45
     enum-known-item-6
     flag-number-requires-2
-    cast-t46
     cast-t47
     cast-t48
     cast-t49
     cast-t50
+    cast-t51
     enum-known-item-7
-    cast-t52
     cast-t53
+    cast-t54
+    enum-known-item-8
     returns
     returns-2
     returns-3
     returns-4
     returns-5
     returns-6
-    returns-7)
+    returns-7
+    returns-8)

@@ -1,5 +1,5 @@
 -- `tape::write::valid` meets its contract.
-use Rattle.tape_format.proofs.WriteLaws.{valid-load, valid-store, valid-flush, valid-order, valid-answer, valid-register, valid-loaded}
+use Rattle.tape_format.proofs.WriteLaws.{valid-load, valid-store, valid-flush, valid-order, valid-answer, valid-register, valid-loaded, valid-stamp}
 use borrow.Author.Needs.{needs}
 use Rattle.tape.proofs.write.valid.Statement.{statement}
 use Rattle.tape.proofs.write.valid.Tie as tie
@@ -79,8 +79,8 @@ cast-allows-9 c = search needs
 allows-requires-10 : tie.Need-allows-requires-10
 allows-requires-10 c κs = search needs
 
-cast-t49 : tie.Need-cast-t49
-cast-t49 c = search needs
+cast-t50 : tie.Need-cast-t50
+cast-t50 c = search needs
 
 cast-allows-10 : tie.Need-cast-allows-10
 cast-allows-10 c = search needs
@@ -97,8 +97,8 @@ cast-allows-11 c = search needs
 allows-requires-12 : tie.Need-allows-requires-12
 allows-requires-12 c κs = search needs
 
-cast-t56 : tie.Need-cast-t56
-cast-t56 c = search needs
+cast-t57 : tie.Need-cast-t57
+cast-t57 c = search needs
 
 cast-allows-12 : tie.Need-cast-allows-12
 cast-allows-12 c = search needs
@@ -121,6 +121,12 @@ cast-allows-14 c = search needs
 allows-requires-15 : tie.Need-allows-requires-15
 allows-requires-15 c κs = search needs
 
+enum-known-item-8 : tie.Need-enum-known-item-8
+enum-known-item-8 c = search needs
+
+allows-requires-16 : tie.Need-allows-requires-16
+allows-requires-16 c κs = search needs
+
 returns : tie.Need-returns
 returns c = rw (c .allows2 .ensures, c .before .allows .ensures, c .before .before .before .item .given .1) (valid-load _ _)
 
@@ -142,5 +148,59 @@ returns-6 c = rw (c .allows14 .ensures, c .before .allows13 .ensures, c .before 
 returns-7 : tie.Need-returns-7
 returns-7 c = rw (c .allows15 .ensures, c .before .before .item7 .given .1) (valid-loaded _ _ (search needs))
 
+returns-8 : tie.Need-returns-8
+returns-8 c = rw (c .allows16 .ensures, c .before .before .item8 .given .1) (valid-stamp _)
+
 pub valid-spec : {M : Type 1} → statement M
-valid-spec = tie.close (tie.spec enum-known-item cast-allows allows-requires cast-allows-2 allows-requires-2 enum-known-item-2 cast-allows-3 allows-requires-3 cast-allows-4 allows-requires-4 enum-known-item-3 cast-allows-5 allows-requires-5 cast-allows-6 allows-requires-6 enum-known-item-4 flag-number-requires cast-allows-7 allows-requires-7 cast-allows-8 allows-requires-8 allows-requires-9 enum-known-item-5 cast-allows-9 allows-requires-10 cast-t49 cast-allows-10 allows-requires-11 enum-known-item-6 cast-allows-11 allows-requires-12 cast-t56 cast-allows-12 allows-requires-13 cast-allows-13 allows-requires-14 enum-known-item-7 cast-allows-14 allows-requires-15 returns returns-2 returns-3 returns-4 returns-5 returns-6 returns-7)
+valid-spec =
+    tie.close
+    (tie.spec
+    enum-known-item
+    cast-allows
+    allows-requires
+    cast-allows-2
+    allows-requires-2
+    enum-known-item-2
+    cast-allows-3
+    allows-requires-3
+    cast-allows-4
+    allows-requires-4
+    enum-known-item-3
+    cast-allows-5
+    allows-requires-5
+    cast-allows-6
+    allows-requires-6
+    enum-known-item-4
+    flag-number-requires
+    cast-allows-7
+    allows-requires-7
+    cast-allows-8
+    allows-requires-8
+    allows-requires-9
+    enum-known-item-5
+    cast-allows-9
+    allows-requires-10
+    cast-t50
+    cast-allows-10
+    allows-requires-11
+    enum-known-item-6
+    cast-allows-11
+    allows-requires-12
+    cast-t57
+    cast-allows-12
+    allows-requires-13
+    cast-allows-13
+    allows-requires-14
+    enum-known-item-7
+    cast-allows-14
+    allows-requires-15
+    enum-known-item-8
+    allows-requires-16
+    returns
+    returns-2
+    returns-3
+    returns-4
+    returns-5
+    returns-6
+    returns-7
+    returns-8)
