@@ -1,7 +1,7 @@
 -- What a reader needs to know of the records on a tape: how many bytes a record takes, and that its call is one that the machine accepts.
 use Prim.Native.Nat.{ℕ, _+_, _%_, _≤_, _<_}
 use native.Mathlib.Omega.{arith}
-use mathlib.Core.Path.{_≡_, _∙_}
+use mathlib.Core.Path.{_≡_, refl, _∙_}
 use mathlib.Core.Bool.{true, _&&_}
 use mathlib.Core.List.{List, [], _∷_}
 use mathlib.Core.Option.{Option·elim}
@@ -25,6 +25,7 @@ use Rattle.tape_format.proofs.RoundTrip.{moves-on}
 use Rattle.reading.specs.declared.Access.{Access}
 use Rattle.reading.specs.declared.Access.the-variants.{Asks, Other}
 use Rattle.reading.specs.Reading.{accessOf}
+use Rattle.reading.specs.Claims.{PassesOver}
 
 -- each number takes a byte at least
 reads-long : (ns tape : List ℕ) (p q : ℕ) → Reads tape p ns q → length ns + p ≤ q
@@ -63,6 +64,17 @@ valid-accepted (rec.Answer f t a c) e = tt
 valid-accepted (rec.Register f t a w x b) e = tt
 valid-accepted (rec.Loaded u v) e = tt
 valid-accepted (rec.Stamp c) e = tt
+
+pub passes-over : PassesOver
+unfolding PassesOver kindOf accessOf
+passes-over (rec.Load u a) h = absurd (omega arith)
+passes-over (rec.Store u a v) h = absurd (omega arith)
+passes-over (rec.Flush u b) h = absurd (omega arith)
+passes-over (rec.Order o) h = refl
+passes-over (rec.Answer f t a c) h = refl
+passes-over (rec.Register f t a w x b) h = refl
+passes-over (rec.Loaded u v) h = refl
+passes-over (rec.Stamp c) h = refl
 
 module _ (t : List ℕ) (at : ℕ) (r : Record) (next : ℕ) (e : recordAt t at ≡ read.Record r next) where
   pub record-valid : valid r ≡ true

@@ -8,9 +8,10 @@ use Rattle.coherence.specs.declared.Call.{Call}
 use Rattle.coherence.specs.PlainMemory.{plainAccepts}
 use Rattle.tape_format.specs.declared.Record.{Record}
 use Rattle.tape_format.specs.declared.RecordRead.the-variants as read
-use Rattle.tape_format.specs.Record.{recordAt}
+use Rattle.tape_format.specs.Record.{recordAt, kindOf}
 use Rattle.tape_format.specs.RoundTrip.{ReadsAs}
-use Rattle.reading.specs.Reading.{Started, Ending, finished, refused, readFrom, readAll, callsOf}
+use Rattle.reading.specs.declared.Access.the-variants.{Other}
+use Rattle.reading.specs.Reading.{Started, Ending, finished, refused, readFrom, readAll, accessOf, callsOf}
 
 -- from a place on, the tape reads as the records, each from where the one before ended, and then so ends
 unfoldable pub ReadsTo : List ℕ → ℕ → List Started → Ending → Type 0
@@ -25,6 +26,10 @@ items ss = map (λ s. s .item) ss
 unfoldable pub AllAccepted : List Call → Type 0
 AllAccepted [] = Unit {0}
 AllAccepted (c ∷ cs) = (plainAccepts c ≡ true) × AllAccepted cs
+
+-- "For kinds 0 to 2 it prints a line; other kinds print nothing": a record of another kind asks no call
+unfoldable pub PassesOver : Type 0
+PassesOver = (r : Record) → 2 < kindOf r → accessOf r ≡ Other
 
 pub record Claims (tape : List ℕ) : Type 0 where
   pub reads : ReadsTo tape 0 (readAll tape .records) (readAll tape .ending)

@@ -2,6 +2,7 @@
 use Prim.Native.Nat.{ℕ, zero, suc, _≤_, _<_}
 use native.Mathlib.Omega.{arith}
 use mathlib.Core.Path.{_≡_, refl, sym, ap, _∙_}
+use mathlib.Core.Logic.{_⊎_, inl, inr, ⊎-elim}
 use mathlib.Core.List.{List, [], _∷_}
 use mathlib.Core.Option.{Option, none, some, Option·elim}
 use mathlib.Core.Bool.{Bool, true, false, cond}
@@ -274,10 +275,12 @@ fits-small (command more) [] h = tt
 fits-small (end x) (n ∷ ns) h = absurd (let z : _≡_ {A = ℕ} 0 1 = cc in omega arith)
 fits-small (end x) [] h = tt
 
-kind-small : (k : ℕ) (l : Layout) → layoutOf k ≡ some l → k ≤ 8
-kind-small = by-kind (λ k l. k ≤ 8) (omega arith) (omega arith) (omega arith) (omega arith) (omega arith) (omega arith) (omega arith) (omega arith)
+-- the kinds of the table are 0 to 6 and 8
+pub in-table : (k : ℕ) (l : Layout) → layoutOf k ≡ some l → (k < 7) ⊎ (k ≡ 8)
+in-table =
+    by-kind (λ k l. (k < 7) ⊎ (k ≡ 8)) (inl (omega arith)) (inl (omega arith)) (inl (omega arith)) (inl (omega arith)) (inl (omega arith)) (inl (omega arith)) (inl (omega arith)) (inr refl)
 
 pub valid-small : (r : Record) → valid r ≡ true → Small (kindOf r ∷ fieldsOf r)
 valid-small r v =
     let (l, o, m) = known r in
-    (limit-64-bits (kindOf r) (omega (arith, kind-small (kindOf r) l o)), fits-small l (fieldsOf r) (valid-fits r l o v))
+    (limit-64-bits (kindOf r) (⊎-elim (λ h. omega (arith, h)) (λ h. omega (arith, h)) (in-table (kindOf r) l o)), fits-small l (fieldsOf r) (valid-fits r l o v))

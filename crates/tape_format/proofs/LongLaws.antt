@@ -2,7 +2,7 @@
 use Prim.Native.Nat.{ℕ, _≤_, _<_}
 use native.Mathlib.Omega.{arith}
 use mathlib.Core.Path.{_≡_, refl, sym}
-use mathlib.Core.Logic.{_⊎_, inl, inr, ⊎-elim}
+use mathlib.Core.Logic.{_⊎_, ⊎-elim}
 use mathlib.Core.List.{List, [], _∷_, _++_}
 use mathlib.Core.Option.{Option, none, some}
 use mathlib.Core.Bool.{Bool, true, false}
@@ -23,7 +23,7 @@ use Rattle.tape_format.specs.Refused.{Reads}
 use Rattle.tape_format.specs.Ranges.{RefusesKinds, RefusesLong}
 use Rattle.tape_format.proofs.FieldLaws.{both-true, field-allowed, field-banned, mostOf, allowed-most}
 use Rattle.tape_format.proofs.ReadLaws.{on, stop, on-command, no-command, then, of-kind, of-no-kind}
-use Rattle.tape_format.proofs.LayoutLaws.{number-of-command, command-small, inv-fits, by-kind, known, valid-fits}
+use Rattle.tape_format.proofs.LayoutLaws.{number-of-command, command-small, inv-fits, by-kind, known, valid-fits, in-table}
 use Rattle.tape_format.proofs.RangeLaws.{range-valid}
 
 -- each field of a layout holds 32 bits at most
@@ -80,16 +80,9 @@ module _ (tape : List ℕ) (place v next : ℕ) (read : numberAt tape place ≡ 
 no-such-kind : (v : ℕ) → (v ≡ 7) ⊎ (9 ≤ v) → layoutOf v ≡ none
 no-such-kind v h = go (layoutOf v) refl
   where
-    other : (k : ℕ) → (k < 7) ⊎ (k ≡ 8) → (k ≡ 7) ⊎ (9 ≤ k) → ⊥
-    other k a b = ⊎-elim (λ x. ⊎-elim (λ y. omega arith) (λ y. omega arith) b) (λ x. ⊎-elim (λ y. omega arith) (λ y. omega arith) b) a
-
-    in-table : (k : ℕ) (l : Layout) → layoutOf k ≡ some l → (k < 7) ⊎ (k ≡ 8)
-    in-table =
-        by-kind (λ k l. (k < 7) ⊎ (k ≡ 8)) (inl (omega arith)) (inl (omega arith)) (inl (omega arith)) (inl (omega arith)) (inl (omega arith)) (inl (omega arith)) (inl (omega arith)) (inr refl)
-
     go : (o : Option Layout) → layoutOf v ≡ o → o ≡ none
     go none e = refl
-    go (some l) e = absurd (other v (in-table v l e) h)
+    go (some l) e = absurd (⊎-elim (λ x. ⊎-elim (λ y. omega arith) (λ y. omega arith) h) (λ x. ⊎-elim (λ y. omega arith) (λ y. omega arith) h) (in-table v l e))
 
 pub refuses-kinds : RefusesKinds
 unfolding RefusesKinds recordAt
