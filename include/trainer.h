@@ -119,6 +119,11 @@ uint32_t trainer_read_record(const uint8_t *tape, size_t tape_size,
                              size_t place, size_t *next,
                              uint64_t *numbers, size_t numbers_size);
 
+/* How many bytes a record takes on the tape: *size becomes the size of the smallest space that trainer_write_record accepts for it. Refusals: 8 if
+ * there are not TRAINER_RECORD numbers; then 7 (kind 7, or 9 and above), 8. Refused, *size stays. */
+uint32_t trainer_record_size(const uint64_t *numbers, size_t numbers_size,
+                             size_t *size);
+
 /* Writes a record into the first bytes of the space; *written becomes how many. Refusals: 8 if there are not TRAINER_RECORD numbers;
  * then 7 (kind 7, or 9 and above), 8, 9. */
 uint32_t trainer_write_record(const uint64_t *numbers, size_t numbers_size,

@@ -137,19 +137,26 @@ def spelled(n):
     return [n] if n < 128 else [n % 128 + 128] + spelled(n // 128)
 
 
+def groups(n):
+    """The fewest groups of seven bits that hold a number; one for zero (T-06)."""
+    return next(count for count in range(1, 11) if n < 2 ** (7 * count))
+
+
 def writing(room, *numbers):
-    """Tests 8, then 9; fills the first bytes, answers how many, and the rest stays. Kind 7 and kinds from 9 up are 7 (T-04)."""
+    """Tests 8, then 9; fills the first bytes, answers how many, and the rest stays. Kind 7 and kinds from 9 up are 7 (T-04). Before that the refusal and the size
+    of the same record, whatever the room (T-06)."""
     kind, *fields = list(numbers) + [0] * (7 - len(numbers))
     space = [UNTOUCHED] * room
     if kind not in FIELDS:
-        return [7, 0], space
+        return [7, 0, 7, 0], space
     fields = fields[: len(FIELDS[kind])]
     if not all(keeps(kind, fields[: n + 1]) for n in range(len(fields))):
-        return [8, 0], space
+        return [8, 0, 8, 0], space
+    size = [0, sum(map(groups, [kind] + fields))]
     written = sum(map(spelled, [kind] + fields), [])
     if len(written) > room:
-        return [9, 0], space
-    return [0, len(written)], written + space[len(written) :]
+        return size + [9, 0], space
+    return size + [0, len(written)], written + space[len(written) :]
 
 
 READ, MODIFIED_READ, INVALIDATE, COPYBACK = range(4)

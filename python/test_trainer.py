@@ -1,8 +1,10 @@
 """Tests of the Python module: values of documents 01 and 02. python3 python/test_trainer.py, after ./library."""
+import ctypes
 import random
 import sys
 import unittest
 from pathlib import Path
+from unittest import mock
 
 sys.path.insert(0, str(Path(__file__).resolve().parent))
 import trainer
@@ -142,6 +144,57 @@ class Tapes(Case):
     def test_cycles_that_are_no_64_bit_number_overflow(self):
         for bad in (-1, 2**64):
             self.assertRaises(OverflowError, trainer.write_record, trainer.Stamp(bad))
+            self.assertRaises(OverflowError, trainer.record_size, trainer.Stamp(bad))
+
+    def exactly(self, record, size):
+        """So many bytes are the size of a record, and the least room that it is written in."""
+        with self.subTest(record):
+            self.assertEqual(trainer.record_size(record), size)
+            self.assertEqual(len(trainer.write_record(record)), size)
+            self.assertEqual(len(trainer.write_record(record, size)), size)
+            self.refused(9, "no room", trainer.write_record, record, size - 1)
+
+    def test_sizes_of_numbers(self):
+        # A number's groups: significant bits divided by seven, rounded up; one for zero. The kind of a stamp takes one byte more.
+        groups = [(0, 1), (1, 1), (300, 2), (2**32 - 1, 5), (2**32, 5), (2**64 - 1, 10)]
+        for k in range(1, 10):
+            groups += [(2 ** (7 * k) - 1, k), (2 ** (7 * k), k + 1)]
+        for number, count in groups:
+            self.exactly(trainer.Stamp(number), 1 + count)
+
+    def test_sizes_of_each_kind(self):
+        for record, text in self.RECORDS:
+            self.exactly(record, len(bytes.fromhex(text)))
+        # The least and the most that a kind takes.
+        cases = [(trainer.Load(0, 0), 3), (trainer.Load(3, 2044), 4), (trainer.Store(0, 0, 0), 4), (trainer.Store(3, 2044, 2**32 - 1), 9)]
+        cases += [(trainer.Flush(0, 0), 3), (trainer.Flush(3, 63), 3), (Order(0, Command.READ, 0, False), 5), (Order(3, Command.COPYBACK, 63, False), 5)]
+        cases += [(trainer.Answer(0, 1, 0, 0), 5), (trainer.Answer(7, 6, 255, 255), 7), (trainer.Loaded(0, 0), 3), (trainer.Loaded(3, 2**32 - 1), 7)]
+        cases += [(trainer.Register(0, 1, 0, False, 0, 0), 7), (trainer.Register(7, 6, 255, True, 2**32 - 1, 7), 12)]
+        for record, size in cases:
+            self.exactly(record, size)
+
+    def test_without_a_given_room_it_is_the_size(self):
+        with mock.patch.object(trainer, "record_size", return_value=2):
+            self.refused(9, "no room", trainer.write_record, trainer.Stamp(300))
+
+    def test_sizes_refused(self):
+        cases = [trainer.Load(4, 0), trainer.Load(0, 2048), trainer.Load(0, 2), trainer.Store(0, 0, 2**32), trainer.Flush(0, 64)]
+        cases += [Order(0, 4, 0, False), Order(0, Command.COPYBACK, 0, True), trainer.Answer(3, 3, 0, 0), trainer.Answer(0, 1, 0, 256)]
+        cases += [trainer.Register(1, 2, 256, True, 0, 7), trainer.Register(1, 2, 3, True, 0, 8), trainer.Loaded(0, 2**64 - 1)]
+        for record in cases:
+            with self.subTest(record):
+                self.refused(8, "field range", trainer.record_size, record)
+
+    def test_sizes_of_bare_numbers(self):
+        # What no record of this module stands for: another count of numbers, a kind that is none, numbers behind the last field.
+        zeros = [0] * 6
+        cases = [([], 8), (zeros, 8), ([0] * 8, 8), ([7] * 6, 8), ([7] + zeros, 7), ([9, 4] + zeros[1:], 7), ([264] + zeros, 7), ([2**64 - 1] + zeros, 7)]
+        for numbers, number in cases + [([0, 4] + zeros[1:], 8)]:
+            with self.subTest(numbers):
+                size = ctypes.c_size_t(77)
+                self.assertEqual((trainer._call("record_size", (ctypes.c_uint64 * len(numbers))(*numbers), size), size.value), (number, 77))
+        size = ctypes.c_size_t(77)
+        self.assertEqual((trainer._call("record_size", (ctypes.c_uint64 * 7)(8, 300, *[2**64 - 1] * 5), size), size.value), (0, 3))
 
     def test_stamps_in_a_drill(self):
         largest = "08" + "FF" * 9 + "01"

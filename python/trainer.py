@@ -309,14 +309,26 @@ def read_tape(tape: Union[bytes, bytearray], place: int = 0) -> Iterator[Record]
         reading = _read(whole, reading.next)
 
 
-def write_record(record: Record, room: int = 10 * _RECORD) -> bytes:
-    """The bytes of a record, which must fit into so much room; the usual room is enough for any."""
+def _numbers(record: Record) -> ctypes.Array:
+    """The kind of a record and its fields, with 0 behind them."""
     numbers = [KINDS.index(type(record)), *map(int, record)]
     for number in numbers:
         if not 0 <= number < 1 << 64:
             raise OverflowError(f"{number} is no number of 64 bits")
-    space, written = (_U8 * room)(), _SIZE()
-    _do("write_record", (_U64 * _RECORD)(*numbers), space, written)
+    return (_U64 * _RECORD)(*numbers)
+
+
+def record_size(record: Record) -> int:
+    """How many bytes a record takes on the tape, which is the least room that `write_record` accepts for it."""
+    size = _SIZE()
+    _do("record_size", _numbers(record), size)
+    return size.value
+
+
+def write_record(record: Record, room: Optional[int] = None) -> bytes:
+    """The bytes of a record, which must fit into so much room; without a given room it has exactly the room that it needs."""
+    space, written = (_U8 * (record_size(record) if room is None else room))(), _SIZE()
+    _do("write_record", _numbers(record), space, written)
     return bytes(space[: written.value])
 
 

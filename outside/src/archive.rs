@@ -49,6 +49,10 @@ mod foreign {
             place: usize, next: *mut usize,
             numbers: *mut u64, numbers_size: usize,
         ) -> u32;
+        pub fn trainer_record_size(
+            numbers: *const u64, numbers_size: usize,
+            size: *mut usize,
+        ) -> u32;
         pub fn trainer_write_record(
             numbers: *const u64, numbers_size: usize,
             space: *mut u8, space_size: usize,
@@ -163,6 +167,10 @@ pub fn peek(directory: &[u8], memory: &[u8], cache: &[u8], block: u32, store: &m
 
 pub fn read_record(tape: &[u8], place: usize, next: &mut usize, numbers: &mut [u64]) -> u32 {
     unsafe { foreign::trainer_read_record(tape.as_ptr(), tape.len(), place, next, numbers.as_mut_ptr(), numbers.len()) }
+}
+
+pub fn record_size(numbers: &[u64], size: &mut usize) -> u32 {
+    unsafe { foreign::trainer_record_size(numbers.as_ptr(), numbers.len(), size) }
 }
 
 pub fn write_record(numbers: &[u64], space: &mut [u8], written: &mut usize) -> u32 {

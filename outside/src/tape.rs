@@ -118,18 +118,37 @@ pub fn read(tape: &[u8], place: usize) -> Result<Found, Refused> {
     Ok(Found::Record(Record { kind, fields }, at))
 }
 
+/// Tests a record's kind, and then its fields.
+fn check(record: &Record) -> Result<(), u32> {
+    let rules = rules(record.kind).ok_or(UNKNOWN_KIND)?;
+    let mut fields = rules.iter().zip(&record.fields).enumerate();
+    if record.fields.len() == rules.len() && fields.all(|(at, (&rule, &field))| keeps(rule, &record.fields[..at], field)) {
+        Ok(())
+    } else {
+        Err(FIELD_RANGE)
+    }
+}
+
+/// How many groups a number has: its lowest seven bits are one, and what is left above them has its own.
+fn groups(number: u64) -> usize {
+    match number / 128 {
+        0 => 1,
+        above => 1 + groups(above),
+    }
+}
+
+/// How many bytes a record takes on the tape.
+pub fn size(record: &Record) -> Result<usize, u32> {
+    check(record)?;
+    Ok(record.fields.iter().fold(groups(record.kind), |sum, &field| sum + groups(field)))
+}
+
 /// The bytes of a record, for a space of so many bytes.
 pub fn write(record: &Record, room: usize) -> Result<Vec<u8>, u32> {
-    let rules = rules(record.kind).ok_or(UNKNOWN_KIND)?;
-    if record.fields.len() != rules.len() {
-        return Err(FIELD_RANGE);
-    }
+    check(record)?;
     let mut bytes = Vec::new();
     spell(record.kind, &mut bytes);
-    for (at, (&rule, &field)) in rules.iter().zip(&record.fields).enumerate() {
-        if !keeps(rule, &record.fields[..at], field) {
-            return Err(FIELD_RANGE);
-        }
+    for &field in &record.fields {
         spell(field, &mut bytes);
     }
     if bytes.len() > room {
@@ -223,6 +242,49 @@ mod tests {
             assert_eq!(write(&stamp, bytes.len() - 1), Err(9));
             assert_eq!(read(&bytes, 0), Ok(Found::Record(stamp, bytes.len())));
             refused(&bytes[..bytes.len() - 1], 5, 1);
+        }
+    }
+
+    /// A group more from each power of 128 on, which is where a number has a bit more than the groups below it hold.
+    #[test]
+    fn sizes_of_stamps() {
+        let sized = |cycles| size(&record(8, &[cycles]));
+        assert_eq!(sized(0), Ok(2));
+        assert_eq!(sized(1), Ok(2));
+        let powers: [u64; 9] = [
+            128,
+            16_384,
+            2_097_152,
+            268_435_456,
+            34_359_738_368,
+            4_398_046_511_104,
+            562_949_953_421_312,
+            72_057_594_037_927_936,
+            9_223_372_036_854_775_808,
+        ];
+        for (below, power) in powers.into_iter().enumerate() {
+            assert_eq!(sized(power - 1), Ok(2 + below), "{power}");
+            assert_eq!(sized(power), Ok(3 + below), "{power}");
+        }
+        assert_eq!(sized(18_446_744_073_709_551_615), Ok(11));
+    }
+
+    #[test]
+    fn sizes() {
+        assert_eq!(size(&record(0, &[3, 2044])), Ok(4));
+        assert_eq!(size(&record(1, &[2, 72, 300])), Ok(5));
+        assert_eq!(size(&record(1, &[3, 2044, 4_294_967_295])), Ok(9));
+        assert_eq!(size(&record(2, &[3, 63])), Ok(3));
+        assert_eq!(size(&record(3, &[3, 1, 63, 1])), Ok(5));
+        assert_eq!(size(&record(4, &[7, 6, 128, 127])), Ok(6));
+        assert_eq!(size(&record(5, &[7, 6, 255, 1, 4_294_967_295, 7])), Ok(12));
+        assert_eq!(size(&record(6, &[3, 2_097_151])), Ok(5));
+        for kind in [7, 9, u64::MAX] {
+            assert_eq!(size(&record(kind, &[4])), Err(7), "{kind}");
+        }
+        let refused: [(u64, &[u64]); 6] = [(0, &[4, 2044]), (0, &[3]), (1, &[3, 72, 1 << 32]), (3, &[0, 2, 5, 1]), (4, &[7, 7, 5, 4]), (8, &[])];
+        for (kind, fields) in refused {
+            assert_eq!(size(&record(kind, fields)), Err(8), "{kind} {fields:?}");
         }
     }
 

@@ -296,8 +296,11 @@ fn random_numbers(random: &mut Random) -> Vec<u64> {
     numbers
 }
 
-/// The record that seven numbers name.
+/// The record that seven numbers name; another count of numbers names none.
 fn record_of(numbers: &[u64]) -> Result<Record, u32> {
+    if numbers.len() != RECORD_NUMBERS {
+        return Err(tape::FIELD_RANGE);
+    }
     let count = tape::field_count(numbers[0]).ok_or(tape::UNKNOWN_KIND)?;
     Ok(Record { kind: numbers[0], fields: numbers[1..=count].to_vec() })
 }
@@ -309,13 +312,28 @@ fn numbers_of(record: &Record) -> Vec<u64> {
     numbers
 }
 
-/// Writes one record both ways, and compares; gives its bytes where it is accepted.
+/// The size of one record both ways, compared, and held against what the proved side writes: that many bytes are room enough, and one byte less is not.
+/// Gives the size where the record is accepted.
+fn size_both(counts: &mut Counts, numbers: &[u64]) -> Option<usize> {
+    let expected = record_of(numbers).and_then(|record| tape::size(&record));
+    let mut size = usize::MAX;
+    let code = archive::record_size(numbers, &mut size);
+    same("the size of a record", &numbers, (code, size), (code_of(&expected), *expected.as_ref().unwrap_or(&usize::MAX)));
+    if code == 0 {
+        for (room, result) in [(size, (0, size)), (size - 1, (tape::NO_ROOM, usize::MAX))] {
+            let mut count = usize::MAX;
+            let code = archive::write_record(numbers, &mut [0; ROOM][..room], &mut count);
+            same("writing into a space of a record's size, or of one byte less", &(numbers, room), (code, count), result);
+        }
+    }
+    counts.one("sizes of records", code);
+    expected.ok()
+}
+
+/// Writes one record both ways, and compares, its size too; gives its bytes where it is accepted.
 fn write_both(counts: &mut Counts, random: &mut Random, numbers: &[u64], room: usize) -> Option<Vec<u8>> {
-    let written = if numbers.len() == RECORD_NUMBERS {
-        record_of(numbers).and_then(|record| tape::write(&record, room))
-    } else {
-        Err(tape::FIELD_RANGE)
-    };
+    size_both(counts, numbers);
+    let written = record_of(numbers).and_then(|record| tape::write(&record, room));
     let fill = random.byte();
     let mut space = vec![fill; room];
     let mut count = usize::MAX;
@@ -433,10 +451,11 @@ fn read_everywhere(counts: &mut Counts, bytes: &[u8]) -> bool {
     taken
 }
 
-/// Writes this number in the place of every number of every kind: with room for any record, with just enough room, and with one byte less.
+/// Writes this number in the place of every number of every kind, and of every one behind its last field: with room for any record, with just enough
+/// room, and with one byte less.
 fn write_everywhere(counts: &mut Counts, random: &mut Random, number: u64) {
     for record in RECORDS {
-        for place in 0..record.len() {
+        for place in 0..RECORD_NUMBERS {
             let mut numbers: Vec<u64> = record.iter().map(|&n| n.into()).collect();
             numbers.resize(RECORD_NUMBERS, 0);
             numbers[place] = number;
@@ -450,7 +469,18 @@ fn write_everywhere(counts: &mut Counts, random: &mut Random, number: u64) {
     }
 }
 
-/// Spellings of one to eleven bytes, and numbers near each power of 2 up to 2^64.
+/// Writes records of every kind, unknown ones too, with every count of numbers up to twice the right one.
+fn write_counts(counts: &mut Counts, random: &mut Random) {
+    for record in RECORDS.into_iter().chain([&[7][..], &[9]]) {
+        let mut numbers: Vec<u64> = record.iter().map(|&n| n.into()).collect();
+        numbers.resize(2 * RECORD_NUMBERS, 0);
+        for count in 0..=numbers.len() {
+            write_both(counts, random, &numbers[..count], ROOM);
+        }
+    }
+}
+
+/// Spellings of one to eleven bytes, numbers near each power of 2 up to 2^64, and counts of numbers.
 fn borders(counts: &mut Counts) {
     let mut lengths = BTreeSet::new();
     for length in 1..=11 {
@@ -466,6 +496,7 @@ fn borders(counts: &mut Counts) {
     }
     same("the lengths of the numbers that a stamp takes", &"", lengths, (1..=10).collect());
     let mut random = Random::new(6_000_000);
+    let mut sizes = BTreeSet::new();
     for power in 0..=64 {
         for near in 0..5 {
             let number = ((1u128 << power) + near).wrapping_sub(2) as u64;
@@ -473,8 +504,11 @@ fn borders(counts: &mut Counts) {
             tape::spell(number, &mut bytes);
             same("whether a stamp takes a number of 64 bits", &number, read_everywhere(counts, &bytes), true);
             write_everywhere(counts, &mut random, number);
+            sizes.extend(size_both(counts, &[8, number, 0, 0, 0, 0, 0]));
         }
     }
+    same("the sizes of the stamps", &"", sizes, (2..=11).collect());
+    write_counts(counts, &mut random);
 }
 
 /// The number of refusal in the last line of a drill's text, 0 where that is the total.
@@ -545,8 +579,8 @@ fn main() {
     let access: &[u32] = &[0, 1, 2, 3, 4, 9];
     counts.expect(&[("cold starts", &[0, 1, 9]), ("loads", access), ("stores", access), ("flushes", access), ("peeks", &[0, 1, 2, 4])]);
     counts.expect(&[("records read", &[0, 5, 6, 7, 8, 9]), ("records written", &[0, 7, 8, 9]), ("drills", &[0, 9])]);
-    counts.expect(&[("ends of a drill's text", &[0, 5, 6, 7, 8, 9])]);
-    at_borders.expect(&[("records read", &[0, 5, 6, 7, 8]), ("records written", &[0, 7, 8, 9])]);
+    counts.expect(&[("sizes of records", &[0, 7, 8]), ("ends of a drill's text", &[0, 5, 6, 7, 8, 9])]);
+    at_borders.expect(&[("records read", &[0, 5, 6, 7, 8]), ("sizes of records", &[0, 7, 8]), ("records written", &[0, 7, 8, 9])]);
     println!("compared, with no difference:");
     println!("  {calls} calls");
     counts.print();

@@ -8,9 +8,10 @@ use Rattle.number.specs.Number as number
 use Rattle.tape_format.specs.Field.{retriedMost, allowed, ruled, fieldAt}
 use Rattle.tape_format.specs.Record.{load, store, flush, order, answer, register, loaded, stamp, layoutOf, andThen, andCommand, fieldsAt, kindAt, recordAt, recordTold, kindOf, fieldsOf, fits, fitsCommand}
 use Rattle.tape_format.specs.Write.{valid, bytesOf, writtenOf, writtenRefusal, spaceAfter}
-use Rattle.tape.specs.Numbers.{padded}
+use Rattle.tape_writer.specs.Numbers.{padded}
 use Rattle.crossing.specs.Capped.{capped}
-use Rattle.capi_tape.specs.Entry.{filled, readReturned, numbersLeft, nextLeft, storeFrom, orderWith, orderFrom, answerFrom, registerFrom, loadedFrom, kindFrom, recordFrom, writeReturned, spaceLeft, countOr, writtenLeft}
+use Rattle.record_numbers.specs.Entry.{storeFrom, orderWith, orderFrom, answerFrom, registerFrom, loadedFrom, kindFrom, recordFrom, countOr}
+use Rattle.capi_tape.specs.Calls.{filled, readReturned, numbersLeft, nextLeft, writeReturned, spaceLeft, writtenLeft}
 use Rattle.capi_tape.specs.Examples.{wrote, read, Examples}
 
 pub examples : Examples

@@ -1,3 +1,2 @@
-pub mod EntryLaws
-pub mod BackLaws
+pub mod CallLaws
 pub mod Examples

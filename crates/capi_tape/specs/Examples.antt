@@ -3,7 +3,8 @@ use Prim.Native.Nat.{ℕ}
 use mathlib.Core.Path.{_≡_}
 use mathlib.Core.List.{List, [], _∷_, _++_}
 use lib.ListN.{replicate}
-use Rattle.capi_tape.specs.Entry.{recordFrom, readReturned, numbersLeft, nextLeft, writeReturned, spaceLeft, writtenLeft}
+use Rattle.record_numbers.specs.Entry.{recordFrom}
+use Rattle.capi_tape.specs.Calls.{readReturned, numbersLeft, nextLeft, writeReturned, spaceLeft, writtenLeft}
 
 -- a register access: from 1 to 2, AID 200, a write, RA 70,000, BCT 6; and its bytes
 abbrev numbers : List ℕ

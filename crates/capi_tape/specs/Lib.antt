@@ -1,3 +1,3 @@
 -- What crosses between the tape and a program in another language.
-pub mod Entry
+pub mod Calls
 pub mod Examples

@@ -3,5 +3,4 @@ pub mod GroupLaws
 pub mod StandsLaws
 pub mod ReaderLaws
 pub mod NumberLaws
-pub mod SpellLaws
 pub mod RefusalLaws

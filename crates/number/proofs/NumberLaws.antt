@@ -119,7 +119,7 @@ groups-below most (suc left) n q tape p e =
     ⊎-elim (λ w. omega (arith, w .0, top-above most left)) (λ w. omega (arith, w .1 .2, groups-below most left (suc (w .1 .0)) q tape (p + 1) (w .1 .1))) (i .1)
 
 -- the numbers that can be spelled are those below this: those of 64 bits
-pub limit : ℕ
+unfoldable pub limit : ℕ
 limit = top last (groups - 1)
 
 pub limit-64-bits : (n : ℕ) → n ≤ 18446744073709551615 → n < limit

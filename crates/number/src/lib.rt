@@ -1,11 +1,10 @@
-// Numbers on the tape (document 01, "The tape"; document 02, T-04), read and written.
+// Numbers on the tape (document 01, "The tape"; document 02, T-04), read.
 use order::BAD_NUMBER;
 use order::CUT;
 ghost use mathlib.Core.Path.{_≡_};
-ghost use Prim.Native.Nat.{_+_, _≤_, _<_};
+ghost use Prim.Native.Nat.{_<_};
 ghost use lib.ListN.{length, getD};
-ghost use lib.Seq.{sets};
-ghost use Rattle.number.specs.Number.{numberAt, spellGroups, spellAll, filled};
+ghost use Rattle.number.specs.Number.{numberAt};
 
 // The most groups of a number, and the most that the last of so many can hold.
 pub const GROUPS: u64 = 10;
@@ -72,63 +71,4 @@ pub fn read_number(tape: &[u8], at: usize) -> NumberRead
         return NumberRead::Number(first, at + 1);
     }
     read_more(tape, at, first)
-}
-
-// How many groups spell `value`, of at most `left`.
-fn count_groups(value: u64, left: u64) -> usize
-    ensures { λ r. ⌜ r ≡ length (spellGroups left value) ⌝ }
-{
-    if left == 0 {
-        return 0;
-    }
-    if value < 128 {
-        return 1;
-    }
-    count_groups(value / 128, left - 1) + 1
-}
-
-// Spells `value` from `at` on, in at most `left` groups; the place after it.
-fn put_groups(out: &mut [u8], at: usize, value: u64, left: u64) -> usize
-    requires { ⌜ at + length (spellGroups left value) ≤ length (now out) ⌝ }
-    ensures { λ r. ⌜ (r ≡ at + length (spellGroups left value)) × (now (out .exit) ≡ sets (now (out .entry)) at (spellGroups left value)) ⌝ }
-{
-    if left == 0 {
-        return at;
-    }
-    if value < 128 {
-        out[at] = value as u8;
-        return at + 1;
-    }
-    out[at] = (value % 128 + 128) as u8;
-    put_groups(out, at + 1, value / 128, left - 1)
-}
-
-// How many bytes spell the numbers.
-fn size_all(numbers: &[u64]) -> usize
-    ensures { λ r. ⌜ r ≡ length (spellAll (now (numbers .entry))) ⌝ }
-{
-    let mut size: usize = 0;
-    let mut i = 0;
-    while i < numbers.len() {
-        size += count_groups(numbers[i], GROUPS);
-        i += 1;
-    }
-    size
-}
-
-// Spells the numbers at the start of `out`, where all of them have room. The answer is how many bytes spell them.
-pub fn write_numbers(numbers: &[u64], out: &mut [u8]) -> usize
-    ensures { λ r. ⌜ (r ≡ length (spellAll (now (numbers .entry)))) × (now (out .exit) ≡ filled (spellAll (now (numbers .entry))) (now (out .entry))) ⌝ }
-{
-    let size = size_all(numbers);
-    if out.len() < size {
-        return size;
-    }
-    let mut at: usize = 0;
-    let mut i = 0;
-    while i < numbers.len() {
-        at = put_groups(out, at, numbers[i], GROUPS);
-        i += 1;
-    }
-    size
 }

@@ -1,6 +1,7 @@
 pub mod FieldLaws
 pub mod ReadLaws
 pub mod WriteLaws
+pub mod SizeLaws
 pub mod LayoutLaws
 pub mod RoundTrip
 pub mod RefusedLaws

@@ -14,11 +14,13 @@ use Rattle.tape_format.specs.declared.RecordRead.the-variants as read
 use Rattle.tape_format.specs.declared.Written.the-variants as wrote
 use Rattle.tape_format.specs.Record.{recordAt, recordTold}
 use Rattle.tape_format.specs.Write.{writtenOf, spaceAfter}
+use Rattle.tape_format.specs.Size.{sizeTold}
 
--- the bytes are read as the record, and the record is written as the bytes
+-- the bytes are read as the record, the record takes so many, and it is written as the bytes
 unfoldable pub Spelled : List ℕ → Record → Type 0
 Spelled bytes r =
     (recordAt bytes 0 ≡ read.Record r (length bytes))
+    × (sizeTold r ≡ wrote.Bytes (length bytes))
     × (writtenOf r (length bytes) ≡ wrote.Bytes (length bytes))
     × (spaceAfter r (replicate (length bytes) 0) ≡ bytes)
 
@@ -126,3 +128,5 @@ pub record Examples : Type 0 where
   pub pastEnd : recordTold 3 (recordAt (0x00 ∷ 0x00 ∷ []) 3) ≡ refusedAt 5 3
   pub finished : recordTold 2 (recordAt (0x00 ∷ 0x00 ∷ []) 2) ≡ record { refusal = 0; place = 2; numbers = [] }
   pub told : toldOf (0x01 ∷ 0x02 ∷ 0x48 ∷ 0xAC ∷ 0x02 ∷ []) ≡ record { refusal = 0; place = 5; numbers = 1 ∷ 2 ∷ 72 ∷ 300 ∷ [] }
+  -- a unit of 4 and a retried copyback have no size
+  pub noSize : map sizeTold (rec.Load 4 0 ∷ ordered 0 Copyback 0 true ∷ []) ≡ replicate 2 (wrote.Refused 8)

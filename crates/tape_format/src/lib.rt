@@ -47,7 +47,7 @@ pub enum RecordRead {
     Refused(u8, usize),
 }
 
-// How many bytes were written, or the number of the refusal.
+// How many bytes a record has, or the number of the refusal.
 pub enum Written {
     Bytes(usize),
     Refused(u8),

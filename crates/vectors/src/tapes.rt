@@ -53,8 +53,12 @@ pub(crate) fn reading(letter: u8, given: Row) {
     }
 }
 
-// The refusal, how many bytes the record has, and all bytes of the space.
+// Of asking for the size: the refusal and the size. Of writing: the refusal, how many bytes were written, and all bytes of the space.
 fn write(numbers: &[u64], space: &mut [u8]) {
+    let mut size = 0usize;
+    let unknown = capi_size::trainer_record_size(numbers, &mut size);
+    show(unknown as u64);
+    show(size as u64);
     let mut written = 0usize;
     let refusal = capi_tape::trainer_write_record(numbers, space, &mut written);
     show(refusal as u64);

@@ -1,8 +1,8 @@
 -- `capi_tape::trainer_read_record` meets its contract.
-use Rattle.tape.proofs.NumbersLaws.{numbers-spell}
+use Rattle.tape_writer.proofs.NumbersLaws.{numbers-spell}
 use borrow.Author.Needs.{needs}
 use mathlib.Core.Path.{sym, _∙_}
-use Rattle.capi_tape.proofs.EntryLaws.{numbers-put, read-short, read-some, read-end, read-refused}
+use Rattle.capi_tape.proofs.CallLaws.{numbers-put, read-short, read-some, read-end, read-refused}
 use Rattle.capi_tape.proofs.trainer_read_record.Statement.{statement}
 use Rattle.capi_tape.proofs.trainer_read_record.Tie as tie
 

@@ -2,8 +2,8 @@
 use borrow.Author.Needs.{needs}
 use mathlib.Core.Path.{sym, _∙_}
 use Rattle.tape_format.specs.Write.{writtenRefusal}
-use Rattle.capi_tape.specs.Entry.{countOr}
-use Rattle.capi_tape.proofs.EntryLaws.{write-known, write-refused}
+use Rattle.record_numbers.specs.Entry.{countOr}
+use Rattle.capi_tape.proofs.CallLaws.{write-known, write-refused}
 use Rattle.capi_tape.proofs.trainer_write_record.Statement.{statement}
 use Rattle.capi_tape.proofs.trainer_write_record.Tie as tie
 

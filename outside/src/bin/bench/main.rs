@@ -168,11 +168,24 @@ fn read_all(tape: &[u8], read: impl Fn(&[u8], usize, &mut usize, &mut [u64]) -> 
     sum
 }
 
+/// Every record's size; gives a sum that depends on every answer. How many numbers a record has is hidden from the compiler.
+fn size_all(records: &[[u64; 7]], record_size: impl Fn(&[u64], &mut usize) -> u32) -> u64 {
+    let (mut sum, width) = (0u64, black_box(7));
+    for n in records {
+        let mut size = 0;
+        let code = record_size(&n[..width], &mut size);
+        sum += u64::from(code) + (n[0] + 1) * size as u64;
+    }
+    sum
+}
+
+/// Every record written. How many numbers a record has, and the size of the space, are hidden from the compiler.
 fn write_all(records: &[[u64; 7]], write: impl Fn(&[u64], &mut [u8], &mut usize) -> u32) -> u64 {
     let (mut sum, mut space) = (0u64, [0u8; 40]);
+    let (width, space) = black_box((7, &mut space[..]));
     for n in records {
         let mut count = 0;
-        let code = write(n, &mut space, &mut count);
+        let code = write(&n[..width], space, &mut count);
         sum += (code as usize + count + space[count - 1] as usize) as u64;
     }
     sum
@@ -183,6 +196,14 @@ fn reading_row(name: &str, records: &[[u64; 7]]) {
     let [proved, rust] = measure::<2>(records.len(), |n| {
         let tape = black_box(&tape[..]);
         if n == 0 { read_all(tape, archive::read_record) } else { read_all(tape, records::trainer_read_record) }
+    });
+    row(name, proved, rust, None);
+}
+
+fn size_row(name: &str, records: &[[u64; 7]]) {
+    let [proved, rust] = measure::<2>(records.len(), |n| {
+        let records = black_box(records);
+        if n == 0 { size_all(records, archive::record_size) } else { size_all(records, records::trainer_record_size) }
     });
     row(name, proved, rust, None);
 }
@@ -218,16 +239,12 @@ fn tape_rows() {
     let mut random = Random::new(77);
     let records = random_records(&mut random, 9_000);
     reading_row("read_record", &records);
+    size_row("record_size", &records);
     writing_row("write_record", &records);
     drill_row("", &random_records(&mut random, 30_000));
     let short = short_records(&mut random, 9_000);
     reading_row("read_record, numbers of one byte", &short);
     writing_row("write_record, numbers of one byte", &short);
-}
-
-/// Whether the library reads stamps. One from before T-04 does not, and all other rows can be measured with it.
-fn has_stamps() -> bool {
-    archive::read_record(&[8, 0], 0, &mut 0, &mut [0; 7]) == 0
 }
 
 /// Stamps of numbers from 2^63 up, each divided by 2 fewer than `shifts` times.
@@ -241,6 +258,7 @@ fn stamp_rows() {
     let long = stamps(&mut random, 1, 9_000);
     reading_row("read_record, stamps of one to ten groups", &any);
     reading_row("read_record, stamps of ten groups", &long);
+    size_row("record_size, stamps of one to ten groups", &any);
     writing_row("write_record, stamps of one to ten groups", &any);
     writing_row("write_record, stamps of ten groups", &long);
     drill_row(" of stamps", &stamps(&mut random, 64, 30_000));
@@ -543,11 +561,7 @@ fn main() {
         .collect();
     calls_row("random loads and stores", &[], &mix);
     tape_rows();
-    if has_stamps() {
-        stamp_rows();
-    } else {
-        println!("(this library has no stamps)");
-    }
+    stamp_rows();
     message_rows();
     interrupt_rows();
     bus_rows();

@@ -142,53 +142,74 @@ pub fn trainer_read_record(tape: &[u8], place: usize, next: &mut usize, numbers:
     }
 }
 
-/// The count of a kind's fields, where they keep their ranges.
+/// How many groups a number has: its significant bits divided by seven, rounded up, and one for zero. Up to 64 bits 9 / 64 does for 1 / 7.
 #[inline]
-fn valid(n: &[u64; 7]) -> Result<usize, u32> {
+fn groups(number: u64) -> usize {
+    let bits = 64 - (number | 1).leading_zeros() as usize;
+    (9 * bits + 64) / 64
+}
+
+/// The count of a kind's fields and the bytes of the record, where the fields keep their ranges. A field that is at most 127 by its range has
+/// one byte.
+#[inline]
+fn valid(n: &[u64; 7]) -> Result<(usize, usize), u32> {
     let address = |a: u64| a <= 2044 && a % 4 == 0;
     let word = u32::MAX as u64;
-    let (count, good) = match n[0] {
-        0 => (2, n[1] <= 3 && address(n[2])),
-        1 => (3, n[1] <= 3 && address(n[2]) && n[3] <= word),
-        2 => (2, n[1] <= 3 && n[2] <= 63),
-        3 => (4, n[1] <= 3 && n[2] <= 3 && n[3] <= 63 && n[4] <= (n[2] < 2) as u64),
-        4 => (4, n[1] <= 7 && n[2] <= 7 && n[1] != n[2] && n[3] <= 255 && n[4] <= 255),
-        5 => (6, n[1] <= 7 && n[2] <= 7 && n[1] != n[2] && n[3] <= 255 && n[4] <= 1 && n[5] <= word && n[6] <= 7),
-        6 => (2, n[1] <= 3 && n[2] <= word),
-        8 => (1, true),
+    let long = |field: u64| (field > 127) as usize;
+    let (count, size, good) = match n[0] {
+        0 => (2, 3 + long(n[2]), n[1] <= 3 && address(n[2])),
+        1 => (3, 3 + long(n[2]) + groups(n[3]), n[1] <= 3 && address(n[2]) && n[3] <= word),
+        2 => (2, 3, n[1] <= 3 && n[2] <= 63),
+        3 => (4, 5, n[1] <= 3 && n[2] <= 3 && n[3] <= 63 && n[4] <= (n[2] < 2) as u64),
+        4 => (4, 5 + long(n[3]) + long(n[4]), n[1] <= 7 && n[2] <= 7 && n[1] != n[2] && n[3] <= 255 && n[4] <= 255),
+        5 => {
+            let good = n[1] <= 7 && n[2] <= 7 && n[1] != n[2] && n[3] <= 255 && n[4] <= 1 && n[5] <= word && n[6] <= 7;
+            (6, 6 + long(n[3]) + groups(n[5]), good)
+        }
+        6 => (2, 2 + groups(n[2]), n[1] <= 3 && n[2] <= word),
+        8 => (1, 1 + groups(n[1]), true),
         _ => return Err(7),
     };
     if good {
-        Ok(count)
+        Ok((count, size))
     } else {
         Err(8)
     }
 }
 
 #[inline(never)]
+pub fn trainer_record_size(numbers: &[u64], size: &mut usize) -> u32 {
+    let Ok(n) = <&[u64; 7]>::try_from(numbers) else { return 8 };
+    match valid(n) {
+        Ok((_, bytes)) => {
+            *size = bytes;
+            0
+        }
+        Err(refusal) => refusal,
+    }
+}
+
+#[inline(never)]
 pub fn trainer_write_record(numbers: &[u64], space: &mut [u8], written: &mut usize) -> u32 {
     let Ok(n) = <&[u64; 7]>::try_from(numbers) else { return 8 };
-    let count = match valid(n) {
-        Ok(count) => count,
+    let (count, size) = match valid(n) {
+        Ok(found) => found,
         Err(refusal) => return refusal,
     };
-    // A register access has the most bytes, 12; a stamp has up to 11.
-    let mut bytes = [0u8; 12];
+    if size > space.len() {
+        return 9;
+    }
     let mut at = 0;
     for &number in &n[..=count] {
         let mut left = number;
         while left >= 128 {
-            bytes[at] = left as u8 | 128;
+            space[at] = left as u8 | 128;
             at += 1;
             left >>= 7;
         }
-        bytes[at] = left as u8;
+        space[at] = left as u8;
         at += 1;
     }
-    if at > space.len() {
-        return 9;
-    }
-    space[..at].copy_from_slice(&bytes[..at]);
     *written = at;
     0
 }

@@ -1,0 +1,104 @@
+-- The size that is answered is the one that writing takes.
+use Prim.Native.Nat.{ℕ, _≤_, _<_}
+use native.Mathlib.Omega.{arith}
+use mathlib.Core.Path.{_≡_, refl}
+use mathlib.Core.Bool.{Bool, true, false, cond}
+use mathlib.Core.List.{List}
+use lib.ListN.{length, getD}
+use lib.Dec.{leb, eqb}
+use Rattle.order.specs.declared.CommandFound.{CommandFound}
+use Rattle.order.specs.declared.CommandFound.the-variants as command
+use Rattle.order.specs.Command.{commandOf}
+use Rattle.tape_format.specs.declared.Record.{Record}
+use Rattle.tape_format.specs.declared.Written.{Written}
+use Rattle.tape_format.specs.declared.Written.the-variants as wrote
+use Rattle.tape_format.specs.Write.{writtenRefusal, writtenOf}
+use Rattle.tape_format.specs.Size.{sizeTold, Suffices, NeedsSize, RefusesAlike}
+use Rattle.tape_format.proofs.SizeLaws.{suffices, needs-size, refuses-alike, refuses-8}
+use Rattle.record_numbers.specs.declared.RecordFound.{RecordFound}
+use Rattle.record_numbers.specs.declared.RecordFound.the-variants as found
+use Rattle.record_numbers.specs.Entry.{storeFrom, orderWith, orderFrom, answerFrom, registerFrom, loadedFrom, kindFrom, recordFrom, countOr}
+use Rattle.capi_tape.specs.Calls.{writeReturned, writtenLeft}
+use Rattle.capi_size.specs.Calls.{sizeReturned, sizeLeft, ForetellsAll}
+
+-- a refusal's number is never 0
+Numbered : RecordFound → Type 0
+Numbered (found.Known r) = ℕ
+Numbered (found.Refused number) = 0 < number
+
+either : (t : Bool) (a b : RecordFound) → Numbered a → Numbered b → Numbered (cond t a b)
+either true a b h l = h
+either false a b h l = l
+
+ordered : (c : CommandFound) (unit block retried : ℕ) → Numbered (orderWith c unit block retried)
+unfolding orderWith Numbered
+ordered (command.Known given) unit block retried = 0
+ordered command.Unknown unit block retried = omega arith
+
+numbered : (numbers : List ℕ) → Numbered (recordFrom numbers)
+unfolding Numbered recordFrom kindFrom storeFrom orderFrom answerFrom registerFrom loadedFrom
+numbered l =
+    let a = getD l 1 0 in
+    let b = getD l 2 0 in
+    let c = getD l 3 0 in
+    let d = getD l 4 0 in
+    let e = getD l 5 0 in
+    let k = getD l 0 0 in
+    either (eqb (length l) 7) _ _
+    (either (eqb k 0) _ _ 0
+    (either (eqb k 1) _ _ (either (leb c 4294967295) _ _ 0 (omega arith))
+    (either (eqb k 2) _ _ 0
+    (either (eqb k 3) _ _ (either (leb d 1) _ _ (ordered (commandOf b) a c d) (omega arith))
+    (either (eqb k 4) _ _ (either (leb c 255) _ _ (either (leb d 255) _ _ 0 (omega arith)) (omega arith))
+    (either (eqb k 5) _ _ (either (leb c 255) _ _ (either (leb d 1) _ _ (either (leb e 4294967295) _ _ 0 (omega arith)) (omega arith)) (omega arith))
+    (either (eqb k 6) _ _ (either (leb b 4294967295) _ _ 0 (omega arith))
+    (either (eqb k 8) _ _ 0 (omega arith)))))))))
+    (omega arith)
+
+-- a record that the numbers named, by the answer x to the asking
+module _ (r : Record) (s : List ℕ) (n w : ℕ) where
+  never-0 : (number : ℕ) → sizeTold r ≡ wrote.Refused number → number ≡ 0 → ⊥
+  never-0 number e z = let h = refuses-8 r number e in omega arith
+
+  known-enough : (x : Written) → sizeTold r ≡ x → writtenRefusal x ≡ 0 → countOr x n ≤ length s
+      → (writtenRefusal (writtenOf r (length s)) ≡ 0) × (countOr (writtenOf r (length s)) w ≡ countOr x n)
+  unfolding writtenRefusal countOr Suffices
+  known-enough (wrote.Bytes size) e z h = rw (suffices r size (length s) e h) (refl, refl)
+  known-enough (wrote.Refused number) e z h = absurd (never-0 number e z)
+
+  known-short : (x : Written) → sizeTold r ≡ x → writtenRefusal x ≡ 0 → length s < countOr x n → writtenRefusal (writtenOf r (length s)) ≡ 9
+  unfolding writtenRefusal countOr NeedsSize
+  known-short (wrote.Bytes size) e z h = rw (needs-size r size (length s) e h)
+  known-short (wrote.Refused number) e z h = absurd (never-0 number e z)
+
+  known-alike : (x : Written) → sizeTold r ≡ x → (writtenRefusal x ≡ 0 → ⊥) → writtenRefusal (writtenOf r (length s)) ≡ writtenRefusal x
+  unfolding writtenRefusal RefusesAlike
+  known-alike (wrote.Bytes size) e z = absurd (z refl)
+  known-alike (wrote.Refused number) e z = rw (refuses-alike r number (length s) e)
+
+-- what the numbers named
+module _ (s : List ℕ) (n w : ℕ) where
+  found-enough : (f : RecordFound) → Numbered f → sizeReturned f ≡ 0 → sizeLeft f n ≤ length s → (writeReturned f s ≡ 0) × (writtenLeft f s w ≡ sizeLeft f n)
+  unfolding Numbered sizeReturned sizeLeft writeReturned writtenLeft
+  found-enough (found.Known r) h z l = known-enough r s n w (sizeTold r) refl z l
+  found-enough (found.Refused number) h z l = absurd (omega arith)
+
+  found-short : (f : RecordFound) → Numbered f → sizeReturned f ≡ 0 → length s < sizeLeft f n → writeReturned f s ≡ 9
+  unfolding Numbered sizeReturned sizeLeft writeReturned
+  found-short (found.Known r) h z l = known-short r s n w (sizeTold r) refl z l
+  found-short (found.Refused number) h z l = absurd (omega arith)
+
+  found-alike : (f : RecordFound) → (sizeReturned f ≡ 0 → ⊥) → writeReturned f s ≡ sizeReturned f
+  unfolding sizeReturned writeReturned
+  found-alike (found.Known r) z = known-alike r s n w (sizeTold r) refl z
+  found-alike (found.Refused number) z = refl
+
+pub foretells : ForetellsAll
+unfolding ForetellsAll
+foretells numbers s n w =
+    let f = recordFrom numbers in
+    record {
+      enough = found-enough s n w f (numbered numbers);
+      short = found-short s n w f (numbered numbers);
+      alike = found-alike s n w f;
+    }

@@ -1,0 +1,3 @@
+-- The size of a record, for a program in another language.
+pub mod Calls
+pub mod Examples

@@ -1,0 +1,2 @@
+-- A record as seven numbers.
+pub mod Entry

@@ -1,0 +1,38 @@
+-- `tape_field::retried_most` meets its contract.
+use Rattle.tape_format.specs.Field.{retriedMost}
+use borrow.Author.Needs.{needs}
+use Rattle.tape_field.proofs.retried_most.Statement.{statement}
+use Rattle.tape_field.proofs.retried_most.Tie as tie
+
+enum-told : tie.Need-enum-told
+enum-told c = search needs
+
+enum-told-2 : tie.Need-enum-told-2
+enum-told-2 c = search needs
+
+enum-told-3 : tie.Need-enum-told-3
+enum-told-3 c = search needs
+
+enum-told-4 : tie.Need-enum-told-4
+enum-told-4 c = search needs
+
+returns : tie.Need-returns
+unfolding retriedMost
+returns c = search needs
+
+returns-2 : tie.Need-returns-2
+unfolding retriedMost
+returns-2 c = search needs
+
+returns-3 : tie.Need-returns-3
+unfolding retriedMost
+returns-3 c = search needs
+
+returns-4 : tie.Need-returns-4
+unfolding retriedMost
+returns-4 c = search needs
+
+pub retried-most-spec : {M : Type 1} → statement M
+retried-most-spec =
+    tie.close
+    (tie.spec enum-told enum-told-2 enum-told-3 enum-told-4 returns returns-2 returns-3 returns-4)
