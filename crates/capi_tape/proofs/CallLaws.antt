@@ -1,10 +1,9 @@
 -- What reading and writing a record answer and leave through the C interface, for each answer of the tape's own functions.
-use mathlib.Core.Path.{_≡_, refl, ap, _∙_}
+use mathlib.Core.Path.{_≡_, ap, _∙_}
 use mathlib.Core.Bool.{true, false}
 use mathlib.Core.List.{List, [], _∷_, _++_}
 use Prim.Native.Nat.{ℕ, _≤_, _<_}
 use lib.Dec.{leb}
-use native.Mathlib.Omega.{arith}
 use lib.ListN.{length, getD, drop}
 use borrow.Author.Tests.{le-leb, lt-leb}
 use Rattle.tape_format.specs.declared.Record.{Record}
@@ -16,18 +15,8 @@ use Rattle.tape_writer.specs.Numbers.{padded}
 use Rattle.record_numbers.specs.declared.RecordFound.{RecordFound}
 use Rattle.record_numbers.specs.declared.RecordFound.the-variants as found
 use Rattle.record_numbers.specs.Entry.{recordNumbers, countOr}
+use Rattle.record_numbers.proofs.SevenLaws.{seven}
 use Rattle.capi_tape.specs.Calls.{filled, readReturned, numbersLeft, nextLeft, writeReturned, spaceLeft, writtenLeft}
-
-seven : (l : List ℕ) → length l ≡ 7 → getD l 0 0 ∷ getD l 1 0 ∷ getD l 2 0 ∷ getD l 3 0 ∷ getD l 4 0 ∷ getD l 5 0 ∷ getD l 6 0 ∷ [] ≡ l
-seven (a ∷ b ∷ c ∷ d ∷ e ∷ f ∷ g ∷ []) h = refl
-seven (a ∷ b ∷ c ∷ d ∷ e ∷ f ∷ g ∷ x ∷ l) h = absurd (omega arith)
-seven (a ∷ b ∷ c ∷ d ∷ e ∷ f ∷ []) h = absurd (omega arith)
-seven (a ∷ b ∷ c ∷ d ∷ e ∷ []) h = absurd (omega arith)
-seven (a ∷ b ∷ c ∷ d ∷ []) h = absurd (omega arith)
-seven (a ∷ b ∷ c ∷ []) h = absurd (omega arith)
-seven (a ∷ b ∷ []) h = absurd (omega arith)
-seven (a ∷ []) h = absurd (omega arith)
-seven [] h = absurd (omega arith)
 
 -- the seven numbers of a record, put one by one
 pub numbers-put : (r : Record) (v s : List ℕ) → length v ≡ 7 → v ≡ padded (kindOf r ∷ fieldsOf r)

@@ -1,1 +1,4 @@
+pub mod SevenLaws
 pub mod BackLaws
+pub mod ForthLaws
+pub mod NumberedLaws

@@ -2,7 +2,7 @@
 use Prim.Native.Nat.{ℕ, _≤_}
 use mathlib.Core.Path.{_≡_}
 use mathlib.Core.Bool.{cond}
-use mathlib.Core.List.{List, _∷_}
+use mathlib.Core.List.{List, _∷_, _++_}
 use lib.ListN.{length, getD}
 use lib.Dec.{leb, eqb}
 use Rattle.order.specs.declared.CommandFound.{CommandFound}
@@ -14,6 +14,7 @@ use Rattle.tape_format.specs.declared.Record.the-variants as rec
 use Rattle.tape_format.specs.declared.Written.{Written}
 use Rattle.tape_format.specs.declared.Written.the-variants as wrote
 use Rattle.tape_format.specs.Record.{kindOf, fieldsOf}
+use Rattle.tape_format.specs.Ranges.{InRange}
 use Rattle.tape_writer.specs.Numbers.{padded}
 use Rattle.record_numbers.specs.declared.RecordFound.{RecordFound}
 use Rattle.record_numbers.specs.declared.RecordFound.the-variants as found
@@ -101,6 +102,10 @@ Fits (rec.Stamp cycles) = cycles ≤ 18446744073709551615
 -- such a record comes back from its numbers
 unfoldable pub Back : Type 0
 Back = (r : Record) → Fits r → recordFrom (recordNumbers r) ≡ found.Known r
+
+-- and numbers that name a record in range begin with that record's: none of them was capped
+unfoldable pub Forth : Type 0
+Forth = (numbers : List ℕ) (r : Record) → recordFrom numbers ≡ found.Known r → InRange r → (behind : List ℕ) × (numbers ≡ (kindOf r ∷ fieldsOf r) ++ behind)
 
 -- how many bytes; a refusal leaves the number w
 unfoldable pub countOr : Written → ℕ → ℕ

@@ -155,7 +155,7 @@ by-kind P p₀ p₁ p₂ p₃ p₄ p₅ p₆ p₈ k l e =
     (case P k 8 stamp _ l p₈ (λ u. absurd (let z : _≡_ {A = ℕ} 0 1 = cc in omega arith)))))))))
     e
 
-flag-back : (n : ℕ) → n ≤ 1 → flag (eqb n 1) ≡ n
+pub flag-back : (n : ℕ) → n ≤ 1 → flag (eqb n 1) ≡ n
 unfolding flag
 flag-back zero h = refl
 flag-back (suc zero) h = refl

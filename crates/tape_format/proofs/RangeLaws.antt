@@ -75,7 +75,7 @@ retry Copyback true h = sym (h (inr refl))
 
 -- ---- a record is valid if and only if it is in range
 
-in-range : (r : Record) → valid r ≡ true → InRange r
+pub in-range : (r : Record) → valid r ≡ true → InRange r
 unfolding valid Option·elim layoutOf kindOf fieldsOf fits fitsCommand load store flush order answer register loaded stamp InRange IsWord IsCycles Retries
 in-range (rec.Load u a) v =
     let (h, v) = both-true (allowed Unit u) _ v in
