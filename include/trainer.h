@@ -22,7 +22,7 @@ enum {
   TRAINER_ACCEPTED = 0,
   TRAINER_WRONG_SIZE = 1,       /* a memory, cache or message store of another size */
   TRAINER_BROKEN_DIRECTORY = 2, /* a directory that breaks a rule */
-  TRAINER_NO_UNIT = 3,          /* a processor above 3 */
+  TRAINER_NO_UNIT = 3,          /* a processor above 3; a set of processors above 15 */
   TRAINER_BAD_ADDRESS = 4,      /* an address that is no multiple of 4 up to 2,044; a block above 63 */
   TRAINER_CUT = 5,              /* a tape that ends before a number is complete, or a place past its end */
   TRAINER_BAD_NUMBER = 6,       /* a number that is not spelled as it must be */
@@ -35,33 +35,39 @@ enum {
   TRAINER_HALVES_DIFFER = 17    /* an address cycle whose halves differ */
 };
 
-/* ---- The cache machine */
+/* ---- The cache machine (document 01, and document 02, T-05) */
 
 /* Processors; slots of each; blocks of memory; bytes of a block; bytes of the memory store, and of the cache store. Block b lies at 32 b in
  * memory; slot s of unit u lies at 512 u + 32 s in the cache store. */
 enum { TRAINER_UNITS = 4, TRAINER_SLOTS = 16, TRAINER_BLOCKS = 64, TRAINER_BLOCK = 32, TRAINER_STORE = 2048 };
 
-/* Bytes of the directory. Slot s of unit u stands at 2 (16 u + s): its state, then its block (0 if it is invalid). Bytes that do not stand for
- * a directory that keeps the rules are refused with TRAINER_BROKEN_DIRECTORY. */
-enum { TRAINER_DIRECTORY = 128 };
+/* Bytes of the directory. Slot s of unit u stands at 2 (16 u + s): its state, then its block (0 if it is invalid). Byte 128 has the kinds: it is
+ * the set of the units that have a write-through board, unit 0 having weight 1, unit 3 weight 8; the other units have copyback boards. Bytes
+ * that do not stand for a directory that keeps the rules are refused with TRAINER_BROKEN_DIRECTORY, a set above 15 and a write-through unit
+ * with a modified slot too. */
+enum { TRAINER_DIRECTORY = 129 };
 
-/* The states of a slot: invalid (I), shared and unmodified (SU), exclusive and modified (EM). */
+/* The states of a slot: invalid (I), shared and unmodified (SU), exclusive and modified (EM). A slot of a write-through unit is never EM. */
 enum { TRAINER_INVALID = 0, TRAINER_SHARED = 1, TRAINER_MODIFIED = 2 };
 
-/* The commands of an order. */
-enum { TRAINER_READ = 0, TRAINER_MODIFIED_READ = 1, TRAINER_INVALIDATE = 2, TRAINER_COPYBACK = 3 };
+/* The commands of an order. A memory write is the store of a write-through unit. */
+enum { TRAINER_READ = 0, TRAINER_MODIFIED_READ = 1, TRAINER_INVALIDATE = 2, TRAINER_COPYBACK = 3, TRAINER_MEMORY_WRITE = 4 };
 
 /* Numbers in the answer of a call: the loaded value (0 for a store and a flush), how many orders were given, and from TRAINER_FIRST_ORDER on
- * TRAINER_ORDERS orders of TRAINER_ORDER numbers: unit, command, block, retried (0 or 1). Orders that were not given are 0. */
+ * TRAINER_ORDERS orders of TRAINER_ORDER numbers: unit, command, block, retried (0 or 1). Only a read, a modified read and a memory write are
+ * retried, when another unit has the block EM. Orders that were not given are 0. */
 enum { TRAINER_ANSWER = 18, TRAINER_VALUE = 0, TRAINER_COUNT = 1, TRAINER_FIRST_ORDER = 2, TRAINER_ORDERS = 4, TRAINER_ORDER = 4 };
 
 /* The stores that trainer_peek names. */
 enum { TRAINER_IN_MEMORY = 0, TRAINER_IN_CACHE = 1 };
 
-/* Starts cold: every byte of the cache store becomes 0, the directory all invalid. Refusals: 9 if the directory's space is below
- * TRAINER_DIRECTORY bytes; then 1, and the directory becomes all invalid all the same. */
+/* Starts cold: every byte of the cache store becomes 0, and the first TRAINER_DIRECTORY bytes of the directory's space a directory that is all
+ * invalid. write_through is the set of the units that have a write-through board, in the weights of byte 128. Refusals: 9 if the directory's
+ * space is below TRAINER_DIRECTORY bytes; then 3 (a set above 15: it names a unit above 3); then 1, and the directory becomes all invalid with
+ * the chosen kinds all the same. */
 uint32_t trainer_cold_start(const uint8_t *memory, size_t memory_size,
                             uint8_t *cache, size_t cache_size,
+                            uint32_t write_through,
                             uint8_t *directory, size_t directory_size);
 
 /* Unit loads the word at address. Refusals: 9 if the answer's space is below TRAINER_ANSWER numbers; then 1, 2, 3, 4. */
@@ -71,7 +77,8 @@ uint32_t trainer_load(uint8_t *directory, size_t directory_size,
                       uint32_t unit, uint32_t address,
                       uint32_t *answer, size_t answer_size);
 
-/* Unit stores value at address. Refusals as for a load. */
+/* Unit stores value at address. A copyback unit's word goes into its slot in the cache store only. A write-through unit's goes into memory, and
+ * into its slot in the cache store too if it holds the block; if it does not, none of its slots changes. Refusals as for a load. */
 uint32_t trainer_store(uint8_t *directory, size_t directory_size,
                        uint8_t *memory, size_t memory_size,
                        uint8_t *cache, size_t cache_size,
@@ -101,7 +108,7 @@ enum {
   TRAINER_KIND_LOAD = 0,     /* unit, address */
   TRAINER_KIND_STORE = 1,    /* unit, address, value */
   TRAINER_KIND_FLUSH = 2,    /* unit, block */
-  TRAINER_KIND_ORDER = 3,    /* unit, command, block, retried */
+  TRAINER_KIND_ORDER = 3,    /* unit, command, block, retried (0 for an invalidate and a copyback) */
   TRAINER_KIND_ANSWER = 4,   /* from, to, AID, code */
   TRAINER_KIND_REGISTER = 5, /* from, to, AID, write, RA, BCT */
   TRAINER_KIND_LOADED = 6,   /* unit, value */

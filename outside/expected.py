@@ -97,14 +97,14 @@ FIELDS = {
     6: ["unit", "word"],
     8: ["cycles"],
 }
-MOST = {"unit": 3, "address": 2044, "block": 63, "command": 3, "retried": 1, "from": 7, "to": 7, "byte": 255, "flag": 1, "bct": 7, "word": 2**32 - 1, "cycles": 2**64 - 1}
+MOST = {"unit": 3, "address": 2044, "block": 63, "command": 4, "retried": 1, "from": 7, "to": 7, "byte": 255, "flag": 1, "bct": 7, "word": 2**32 - 1, "cycles": 2**64 - 1}
 
 
 def keeps(kind, fields):
-    """Whether the last of these fields of a record keeps its range and rule."""
+    """Whether the last of these fields of a record keeps its range and rule. Order records take command 4, retried 0 or 1 (T-05)."""
     name, n = FIELDS[kind][len(fields) - 1], fields[-1]
     most = MOST[name]
-    bent = name == "address" and n % 4 or name == "retried" and n and fields[1] > 1 or name == "to" and n == fields[0]
+    bent = name == "address" and n % 4 or name == "retried" and n and fields[1] in (2, 3) or name == "to" and n == fields[0]
     return n <= most and not bent
 
 
@@ -159,15 +159,18 @@ def writing(room, *numbers):
     return size + [0, len(written)], written + space[len(written) :]
 
 
-READ, MODIFIED_READ, INVALIDATE, COPYBACK = range(4)
+READ, MODIFIED_READ, INVALIDATE, COPYBACK, MEMORY_WRITE = range(5)
 I, SU, EM = range(3)
 
 
 class Machine:
-    def __init__(self, slots, memory, cache):
-        """Slots are a map from (unit, slot) to [state, block]."""
+    def __init__(self, slots, memory, cache, write_through=0):
+        """Slots are a map from (unit, slot) to [state, block]; write_through is the set of the write-through units, unit 0 having weight 1 (T-05)."""
         self.slots = {**{(u, s): [I, 0] for u in range(4) for s in range(16)}, **slots}
-        self.memory, self.cache, self.orders = memory, cache, []
+        self.memory, self.cache, self.orders, self.write_through = memory, cache, [], write_through
+
+    def writes_through(self, unit):
+        return self.write_through // 2**unit % 2 == 1
 
     def broken(self):
         def rule(u, s):
@@ -175,12 +178,13 @@ class Machine:
             if state == I:
                 return block == 0
             alone = state == SU or all(self.slots[v, t][1] != block or self.slots[v, t][0] == I for v, t in self.slots if v != u)
-            return state <= EM and block <= 63 and block % 16 == s and alone
+            kept = state <= (SU if self.writes_through(u) else EM)
+            return kept and block <= 63 and block % 16 == s and alone
 
-        return not all(rule(u, s) for u, s in self.slots)
+        return self.write_through > 15 or not all(rule(u, s) for u, s in self.slots)
 
     def directory(self):
-        return sum((list(self.slots[n // 16, n % 16]) for n in range(64)), [])
+        return sum((list(self.slots[n // 16, n % 16]) for n in range(64)), []) + [self.write_through]
 
     def refusal(self, tests, unit, address, block):
         faults = {
@@ -204,17 +208,21 @@ class Machine:
     def others(self, unit, block):
         return [v for v in range(4) if v != unit and self.held(v, block)]
 
-    def fetch(self, unit, block, command):
-        slot = unit, block % 16
-        if self.slots[slot][0] == EM:
-            self.order(unit, COPYBACK, self.slots[slot][1])
-        self.slots[slot] = [I, 0]
+    def ask(self, unit, block, command):
+        """The order, and where another unit holds the block EM: retried, that unit's copyback, and the order again."""
         holder = [v for v in self.others(unit, block) if self.held(v, block) == EM]
         self.order(unit, command, block, len(holder))
         if holder:
             self.order(holder[0], COPYBACK, block)
             self.slots[holder[0], block % 16] = [SU, block]
             self.order(unit, command, block)
+
+    def fetch(self, unit, block, command):
+        slot = unit, block % 16
+        if self.slots[slot][0] == EM:
+            self.order(unit, COPYBACK, self.slots[slot][1])
+        self.slots[slot] = [I, 0]
+        self.ask(unit, block, command)
         at = 512 * unit + 32 * (block % 16)
         self.cache[at : at + 32] = self.memory[32 * block : 32 * block + 32]
         self.slots[slot] = [SU, block]
@@ -228,6 +236,10 @@ class Machine:
 
     def store(self, unit, address, value):
         block = address // 32
+        word = value.to_bytes(4, "big")
+        if self.writes_through(unit):
+            self.memory_write(unit, address, word)
+            return 0
         if not self.held(unit, block):
             self.fetch(unit, block, MODIFIED_READ)
         elif self.held(unit, block) == SU:
@@ -235,9 +247,22 @@ class Machine:
         for v in self.others(unit, block):
             self.slots[v, block % 16] = [I, 0]
         self.slots[unit, block % 16] = [EM, block]
-        at = 512 * unit + 32 * (block % 16) + address % 32
-        self.cache[at : at + 4] = value.to_bytes(4, "big")
+        self.put(unit, address, word)
         return 0
+
+    def memory_write(self, unit, address, word):
+        """Memory and the unit's own held copy take the word; all other holders become I (T-05)."""
+        block = address // 32
+        self.ask(unit, block, MEMORY_WRITE)
+        self.memory[address : address + 4] = word
+        if self.held(unit, block):
+            self.put(unit, address, word)
+        for v in self.others(unit, block):
+            self.slots[v, block % 16] = [I, 0]
+
+    def put(self, unit, address, word):
+        at = 512 * unit + 32 * (address // 32 % 16) + address % 32
+        self.cache[at : at + 4] = word
 
     def flush(self, unit, block):
         if self.held(unit, block) == EM:
@@ -263,12 +288,13 @@ def changes(before, after):
 
 
 def machine_of(memory_size, cache_size, pairs):
-    """A machine whose directory has these bytes, place and byte of each: slot n = 16 u + s has its state at 2 n and its block behind it."""
-    directory = [0] * 128
+    """A machine whose directory has these bytes, place and byte of each: slot n = 16 u + s has its state at 2 n and its block behind it, the set of the
+    write-through units stands at 128."""
+    directory = [0] * 129
     for place, byte in zip(pairs[::2], pairs[1::2]):
         directory[place] = byte
     slots = {(n // 16, n % 16): directory[2 * n : 2 * n + 2] for n in range(64)}
-    return Machine(slots, filled(0, memory_size), filled(128, cache_size))
+    return Machine(slots, filled(0, memory_size), filled(128, cache_size), directory[128])
 
 
 def machine(memory_size, cache_size, target, call, unit, value, *pairs):
@@ -278,7 +304,7 @@ def machine(memory_size, cache_size, target, call, unit, value, *pairs):
     if not refusal:
         given[0] = [lambda: m.load(unit, target), lambda: m.store(unit, target, value), lambda: m.flush(unit, target)][call]()
         given[1 : 2 + 4 * len(m.orders)] = [len(m.orders)] + sum(m.orders, [])
-    lent = [([0] * 128, m.directory()), (filled(0, memory_size), m.memory), (filled(128, cache_size), m.cache)]
+    lent = [([0] * 129, m.directory()), (filled(0, memory_size), m.memory), (filled(128, cache_size), m.cache)]
     return [refusal] + given, "".join(";" + changes(before, after) for before, after in lent)
 
 
@@ -292,12 +318,15 @@ def newest(memory_size, cache_size, block, *rest):
     return [0, 1, 512 * owners[0] + 32 * (block % 16)] if owners else [0, 0, 32 * block]
 
 
-def start(memory_size, cache_size, *rest):
-    """A cold start tests 1 alone; refused, its directory is all invalid."""
-    m = machine_of(memory_size, cache_size, rest[4:])
-    refusal = m.refusal([1], 0, 0, 0)
-    after = m.cache if refusal else [0] * 2048
-    return [refusal], ";;" + changes(filled(128, cache_size), after)
+def start(memory_size, cache_size, write_through=0, *rest):
+    """A cold start tests 1; refused, its directory is all invalid and holds the chosen kinds too (T-05). A set that names a unit above 3 is refused with 3
+    before that, and changes nothing."""
+    m = machine_of(memory_size, cache_size, rest[3:])
+    refusal, directory, cache = 3, m.directory(), m.cache
+    if write_through <= 15:
+        refusal, directory = m.refusal([1], 0, 0, 0), [0] * 128 + [write_through]
+        cache = m.cache if refusal else [0] * 2048
+    return [refusal], ";" + changes([0] * 129, directory) + ";" + changes(filled(128, cache_size), cache)
 
 
 def drill(room, *tape):

@@ -60,21 +60,181 @@ class Machines(Case):
         self.refused(2, "broken directory", machine.load, 4, 1)
         self.refused(2, "broken directory", machine.peek, 64)
 
-    def test_a_list_of_calls_against_plain_memory(self):
+
+class WriteThrough(Case):
+    """Machines of which some units have write-through boards."""
+
+    MEMORY = bytes(n % 251 for n in range(2048))
+
+    def slots(self, machine, slot):
+        return [machine.slot(unit, slot) for unit in range(4)]
+
+    def test_the_kinds_are_kept(self):
+        for number in range(16):
+            chosen = {unit for unit in range(4) if number >> unit & 1}
+            machine = trainer.Machine(write_through=chosen)
+            machine.store(0, 72, 9)
+            machine.load(1, 72)
+            machine.flush(2, 2)
+            self.assertEqual((machine.write_through, machine._directory[128]), (chosen, number))
+        self.assertEqual(trainer.Machine(write_through=iter((2, 2, 0))).write_through, {0, 2})
+        self.assertRaises(AttributeError, setattr, trainer.Machine(), "write_through", {1})
+
+    def test_a_store_where_another_unit_has_the_block_modified(self):
+        machine = trainer.Machine(self.MEMORY, (2, 3))
+        machine.store(0, 72, 9)
+        machine.store(0, 76, 5)
+        orders = (Order(2, Command.MEMORY_WRITE, 2, True), Order(0, Command.COPYBACK, 2, False), Order(2, Command.MEMORY_WRITE, 2, False))
+        self.assertEqual(machine.store(2, 72, 10), (0, orders))
+        self.assertEqual(self.slots(machine, 2), [Slot(State.INVALID, 0)] * 4)
+        # The copyback's bytes, and over them the word; in unit 0's cache the bytes stay.
+        block = self.MEMORY[64:72] + bytes([0, 0, 0, 10, 0, 0, 0, 5]) + self.MEMORY[80:96]
+        self.assertEqual((machine.memory[64:96], machine.peek(2)), (block, block))
+        self.assertEqual(machine.cache[72:80], bytes([0, 0, 0, 9, 0, 0, 0, 5]))
+        self.assertEqual([machine.load(unit, 72) for unit in range(4)], [(10, (Order(unit, Command.READ, 2, False),)) for unit in range(4)])
+
+    def test_a_store_where_the_unit_holds_the_block(self):
+        machine = trainer.Machine(self.MEMORY, (1, 2))
+        for unit in range(4):
+            machine.load(unit, 72)
+        before = machine.cache
+        self.assertEqual(machine.store(2, 72, 0x01020304), (0, (Order(2, Command.MEMORY_WRITE, 2, False),)))
+        self.assertEqual(self.slots(machine, 2), [Slot(State.INVALID, 0)] * 2 + [Slot(State.SHARED, 2), Slot(State.INVALID, 0)])
+        # Slot 2 of unit 2 stands at 1,088 of the cache store, the word 8 bytes on. Nothing else changes.
+        word = bytes([1, 2, 3, 4])
+        self.assertEqual(machine.cache, before[:1096] + word + before[1100:])
+        self.assertEqual(machine.memory, self.MEMORY[:72] + word + self.MEMORY[76:])
+        self.assertEqual(machine.load(2, 72), (0x01020304, ()))
+        self.assertEqual(machine.load(1, 72), (0x01020304, (Order(1, Command.READ, 2, False),)))
+
+    def test_a_store_that_misses_changes_no_slot_of_the_unit(self):
+        machine = trainer.Machine(self.MEMORY, (3,))
+        machine.load(3, 584)
+        machine.load(1, 72)
+        before = machine.cache
+        self.assertEqual(machine.store(3, 72, 7), (0, (Order(3, Command.MEMORY_WRITE, 2, False),)))
+        self.assertEqual(self.slots(machine, 2), [Slot(State.INVALID, 0)] * 3 + [Slot(State.SHARED, 18)])
+        self.assertEqual(machine.cache, before)
+        self.assertEqual(machine.memory, self.MEMORY[:72] + bytes([0, 0, 0, 7]) + self.MEMORY[76:])
+        self.assertEqual(machine.load(3, 584).orders, ())
+
+    def test_loads_and_flushes_are_as_before(self):
+        machine = trainer.Machine(self.MEMORY, (3,))
+        machine.store(0, 72, 9)
+        orders = (Order(3, Command.READ, 2, True), Order(0, Command.COPYBACK, 2, False), Order(3, Command.READ, 2, False))
+        self.assertEqual(machine.load(3, 72), (9, orders))
+        self.assertEqual(self.slots(machine, 2), [Slot(State.SHARED, 2)] + [Slot(State.INVALID, 0)] * 2 + [Slot(State.SHARED, 2)])
+        # A copyback unit's store takes the block from the write-through unit.
+        self.assertEqual(machine.store(0, 72, 10).orders, (Order(0, Command.INVALIDATE, 2, False),))
+        self.assertEqual(self.slots(machine, 2), [Slot(State.MODIFIED, 2)] + [Slot(State.INVALID, 0)] * 3)
+        # Another block in the slot goes without a copyback, and so does a flushed one.
+        machine.store(3, 584, 11)
+        machine.load(3, 584)
+        self.assertEqual(machine.load(3, 1096).orders, (Order(3, Command.READ, 34, False),))
+        self.assertEqual(machine.slot(3, 2), Slot(State.SHARED, 34))
+        self.assertEqual(machine.flush(3, 34), (0, ()))
+        self.assertEqual(machine.slot(3, 2), Slot(State.INVALID, 0))
+        self.assertEqual(machine.load(1, 584).value, 11)
+
+    def test_units_refused_at_cold_start(self):
+        for units in ((4,), (0, 4), (5, 4), (31,), (32,), (2**32 - 1,)):
+            self.refused(3, "no unit", trainer.Machine, self.MEMORY, units)
+        self.refused(3, "no unit", trainer.Machine, self.MEMORY[1:], (4,))
+        self.refused(1, "wrong size", trainer.Machine, self.MEMORY[1:], (3,))
+
+    def test_units_that_are_no_32_bit_number_overflow(self):
+        for bad in (-1, 2**32):
+            self.assertRaises(OverflowError, trainer.Machine, self.MEMORY, (0, bad))
+
+    def test_what_a_cold_start_writes(self):
+        # Bytes of the memory store, of the cache store and of the directory's space; the set; the refusal.
+        cases = [(2047, 2048, 128, 16, 9), (2047, 2048, 129, 16, 3), (2048, 2048, 130, 2**32 - 1, 3), (2047, 2048, 130, 10, 1), (2048, 2047, 129, 15, 1)]
+        for memory_size, cache_size, space, chosen, number in cases + [(2048, 2048, 130, 5, 0), (2048, 2048, 129, 0, 0)]:
+            with self.subTest(number, chosen=chosen):
+                memory, cache, directory = (trainer._bytes(b"\xee" * size) for size in (memory_size, cache_size, space))
+                self.assertEqual(trainer._call("cold_start", memory, cache, trainer._u32(chosen), directory), number)
+                written = b"" if number in (9, 3) else bytes(128) + bytes([chosen])
+                self.assertEqual(bytes(directory), written + b"\xee" * (space - len(written)))
+                self.assertEqual((set(memory), set(cache)), ({0xEE}, {0xEE if number else 0}))
+
+    def broken(self, machine, kinds):
+        """With these kinds in the directory each call is refused with 2, before 3 and 4."""
+        machine._directory[128] = kinds
+        self.refused(2, "broken directory", machine.peek, 64)
+        self.refused(2, "broken directory", machine.load, 4, 1)
+        self.refused(2, "broken directory", machine.store, 4, 1, 0)
+        self.refused(2, "broken directory", machine.flush, 4, 64)
+
+    def test_kinds_that_are_no_set_of_units(self):
+        machine = trainer.Machine()
+        for kinds in (16, 17, 128, 255):
+            self.broken(machine, kinds)
+        for size in (128, 130):
+            machine._directory = trainer._bytes(bytes(size))
+            self.refused(2, "broken directory", machine.load, 0, 0)
+
+    def test_a_modified_slot_of_a_write_through_unit(self):
+        machine = trainer.Machine()
+        machine.store(0, 72, 9)
+        self.broken(machine, 1)
+        self.broken(machine, 15)
+        for kinds in (2, 14, 0):
+            machine._directory[128] = kinds
+            self.assertEqual(machine.load(0, 72), (9, ()))
+
+
+class PlainMemory(Case):
+    """Lists of calls beside a plain memory, on machines with each set of write-through boards."""
+
+    # How many write-through and how many copyback boards a machine needs for an order, at least; then whether it is of a write-through unit, its
+    # command, and whether it is retried.
+    ORDERS = [
+        (1, 0, True, Command.READ, False),
+        (1, 0, True, Command.MEMORY_WRITE, False),
+        (1, 1, True, Command.READ, True),
+        (1, 1, True, Command.MEMORY_WRITE, True),
+        (0, 1, False, Command.READ, False),
+        (0, 1, False, Command.MODIFIED_READ, False),
+        (0, 1, False, Command.INVALIDATE, False),
+        (0, 1, False, Command.COPYBACK, False),
+        (0, 2, False, Command.READ, True),
+        (0, 2, False, Command.MODIFIED_READ, True),
+    ]
+
+    def call(self, machine, plain, chance):
+        """A call at random on both: how many orders the bill allows it, and those that it gave."""
+        unit, address, value = chance.randrange(4), 4 * chance.choice((0, 1, 128, 129, 256, 511)), chance.randrange(2**32)
+        kind = chance.randrange(5)
+        if kind < 2:
+            allowed, reply = 3, machine.store(unit, address, value)
+            plain[address : address + 4] = value.to_bytes(4, "big")
+        elif kind < 4:
+            allowed, reply = 1, machine.load(unit, address)
+            self.assertEqual(reply.value, int.from_bytes(plain[address : address + 4], "big"))
+        else:
+            allowed, reply = 0, machine.flush(unit, address // 32)
+        self.assertEqual(machine.peek(address // 32), plain[address // 32 * 32 :][:32])
+        return allowed, reply.orders
+
+    def orders_of_a_list(self, chosen):
+        """The sorts of orders that a list of calls gave, as the rows of ORDERS have them."""
         chance = random.Random(1)
         plain = bytearray(chance.randrange(256) for _ in range(2048))
-        machine = trainer.Machine(plain)
-        for _ in range(2000):
-            unit, address, value = chance.randrange(4), 4 * chance.choice((0, 1, 128, 129, 256, 511)), chance.randrange(2**32)
-            kind = chance.randrange(5)
-            if kind < 2:
-                machine.store(unit, address, value)
-                plain[address : address + 4] = value.to_bytes(4, "big")
-            elif kind < 4:
-                self.assertEqual(machine.load(unit, address).value, int.from_bytes(plain[address : address + 4], "big"))
-            else:
-                machine.flush(unit, address // 32)
-            self.assertEqual(machine.peek(address // 32), plain[address // 32 * 32 :][:32])
+        machine = trainer.Machine(plain, chosen)
+        bill, count, sorts = 0, 0, set()
+        for _ in range(1000):
+            allowed, orders = self.call(machine, plain, chance)
+            bill, count = bill + allowed, count + len(orders)
+            self.assertLessEqual(count, bill)
+            sorts |= {(order.unit in chosen, order.command, order.retried) for order in orders}
+        return sorts
+
+    def test_lists_of_calls(self):
+        for number in range(16):
+            chosen = {unit for unit in range(4) if number >> unit & 1}
+            with self.subTest(write_through=chosen):
+                sorts = {tuple(row[2:]) for row in self.ORDERS if row[0] <= len(chosen) and row[1] <= 4 - len(chosen)}
+                self.assertEqual(self.orders_of_a_list(chosen), sorts)
 
 
 class Tapes(Case):
@@ -83,6 +243,8 @@ class Tapes(Case):
         (trainer.Store(2, 72, 300), "01 02 48 AC 02"),
         (trainer.Flush(1, 63), "02 01 3F"),
         (Order(3, Command.MODIFIED_READ, 5, True), "03 03 01 05 01"),
+        (Order(2, Command.MEMORY_WRITE, 63, True), "03 02 04 3F 01"),
+        (Order(0, Command.MEMORY_WRITE, 18, False), "03 00 04 12 00"),
         (trainer.Answer(7, 6, 5, 128), "04 07 06 05 80 01"),
         (trainer.Register(1, 2, 3, True, 2**32 - 1, 7), "05 01 02 03 01 FF FF FF FF 0F 07"),
         (trainer.Loaded(2, 127), "06 02 7F"),
@@ -100,13 +262,16 @@ class Tapes(Case):
             self.assertEqual(trainer.write_record(record), tape)
             reading = trainer.read_record(tape)
             self.assertEqual(reading, (record, len(tape)))
-            self.assertIs(type(reading.record), type(record))
+            self.assertEqual(repr(reading.record), repr(record))
         records = [record for record, _ in self.RECORDS]
         self.assertEqual(list(trainer.read_tape(trainer.write_tape(records))), records)
 
     def test_refusals(self):
         cases = [("80 80", 5, "cut", 0), ("80 00", 6, "bad number", 0), ("07", 7, "unknown kind", 0), ("09", 7, "unknown kind", 0)]
         cases += [("00 00 C8 84 00", 6, "bad number", 2), ("00 00 80 10", 8, "field range", 2), ("04 03 03 00 00", 8, "field range", 2)]
+        # Command 5; a memory write with retried 2; an invalidate and a copyback that are retried.
+        cases += [("03 00 05 00 00", 8, "field range", 2), ("03 00 04 00 02", 8, "field range", 4)]
+        cases += [("03 00 02 00 01", 8, "field range", 4), ("03 00 03 00 01", 8, "field range", 4)]
         for text, number, name, place in cases:
             self.refused(number, name, trainer.read_record, bytes.fromhex(text), place=place)
         self.refused(5, "cut", trainer.read_record, b"", 1, place=1)
@@ -117,7 +282,8 @@ class Tapes(Case):
         self.refused(8, "field range", next, records, place=4)
         self.refused(8, "field range", trainer.write_record, trainer.Store(4, 72, 300), 0)
         self.refused(9, "no room", trainer.write_record, trainer.Store(2, 72, 300), 4)
-        self.refused(8, "field range", trainer.write_record, Order(0, Command.COPYBACK, 0, True))
+        for order in (Order(0, Command.COPYBACK, 0, True), Order(0, 5, 0, False), Order(0, Command.MEMORY_WRITE, 0, 2)):
+            self.refused(8, "field range", trainer.write_record, order)
         self.refused(8, "field range", trainer.write_record, trainer.Loaded(0, 2**32))
 
     def test_long_numbers_read(self):
@@ -167,7 +333,7 @@ class Tapes(Case):
             self.exactly(record, len(bytes.fromhex(text)))
         # The least and the most that a kind takes.
         cases = [(trainer.Load(0, 0), 3), (trainer.Load(3, 2044), 4), (trainer.Store(0, 0, 0), 4), (trainer.Store(3, 2044, 2**32 - 1), 9)]
-        cases += [(trainer.Flush(0, 0), 3), (trainer.Flush(3, 63), 3), (Order(0, Command.READ, 0, False), 5), (Order(3, Command.COPYBACK, 63, False), 5)]
+        cases += [(trainer.Flush(0, 0), 3), (trainer.Flush(3, 63), 3), (Order(0, Command.READ, 0, False), 5), (Order(3, Command.MEMORY_WRITE, 63, True), 5)]
         cases += [(trainer.Answer(0, 1, 0, 0), 5), (trainer.Answer(7, 6, 255, 255), 7), (trainer.Loaded(0, 0), 3), (trainer.Loaded(3, 2**32 - 1), 7)]
         cases += [(trainer.Register(0, 1, 0, False, 0, 0), 7), (trainer.Register(7, 6, 255, True, 2**32 - 1, 7), 12)]
         for record, size in cases:
@@ -179,7 +345,7 @@ class Tapes(Case):
 
     def test_sizes_refused(self):
         cases = [trainer.Load(4, 0), trainer.Load(0, 2048), trainer.Load(0, 2), trainer.Store(0, 0, 2**32), trainer.Flush(0, 64)]
-        cases += [Order(0, 4, 0, False), Order(0, Command.COPYBACK, 0, True), trainer.Answer(3, 3, 0, 0), trainer.Answer(0, 1, 0, 256)]
+        cases += [Order(0, 5, 0, False), Order(0, Command.COPYBACK, 0, True), trainer.Answer(3, 3, 0, 0), trainer.Answer(0, 1, 0, 256)]
         cases += [trainer.Register(1, 2, 256, True, 0, 7), trainer.Register(1, 2, 3, True, 0, 8), trainer.Loaded(0, 2**64 - 1)]
         for record in cases:
             with self.subTest(record):
@@ -202,6 +368,13 @@ class Tapes(Case):
         tape = bytes.fromhex("08 64 01 00 48 09" + largest + "00 01 48 08 80 80 80 80 10")
         self.assertEqual(trainer.drill(tape), "store 0 72 9 orders 1\nload 1 72 9 orders 3\ntotal 2 calls 4 orders\n")
         self.assertEqual(trainer.drill(tape[:-1]), "store 0 72 9 orders 1\nload 1 72 9 orders 3\nrefused 5 at 21\n")
+
+    def test_memory_writes_in_a_drill(self):
+        # A memory write on the tape asks no call. The drill itself gives none: on copyback boards each unit's second store to a block has no order.
+        tape = b"".join(bytes((3, unit, 4, unit, 1, 1, unit, 32 * unit, 9, 1, unit, 32 * unit, 9)) for unit in range(4))
+        lines = [f"store {unit} {32 * unit} 9 orders {orders}\n" for unit in range(4) for orders in (1, 0)]
+        self.assertEqual(trainer.drill(tape), "".join(lines) + "total 8 calls 4 orders\n")
+        self.assertEqual(trainer.drill(bytes.fromhex("03 02 05 02 00")), "refused 8 at 2\n")
 
     def test_drill(self):
         self.assertEqual(trainer.drill(b""), "total 0 calls 0 orders\n")

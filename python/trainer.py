@@ -19,12 +19,12 @@ import ctypes
 import enum
 import os
 from pathlib import Path
-from typing import Iterable, Iterator, List, NamedTuple, Optional, Tuple, Union
+from typing import FrozenSet, Iterable, Iterator, List, NamedTuple, Optional, Tuple, Union
 
 STORE = 2048  # bytes of the memory store, and of the cache store
 BLOCK = 32  # bytes of a block
 MESSAGE = 4096  # the most bytes of a message
-_DIRECTORY, _ANSWER, _RECORD, _TEXT, _NO_OWNER = 128, 18, 7, 720_960, 8
+_DIRECTORY, _ANSWER, _RECORD, _TEXT, _NO_OWNER = 129, 18, 7, 720_960, 8
 
 # ---- Refusals
 
@@ -119,16 +119,17 @@ def _do(name: str, *given: object) -> None:
 
 
 class Command(enum.IntEnum):
-    """The command of an order."""
+    """The command of an order. A memory write is the store of a write-through unit."""
 
     READ = 0
     MODIFIED_READ = 1
     INVALIDATE = 2
     COPYBACK = 3
+    MEMORY_WRITE = 4
 
 
 class State(enum.IntEnum):
-    """The state of a slot."""
+    """The state of a slot. One of a write-through unit is never modified."""
 
     INVALID = 0
     SHARED = 1
@@ -158,14 +159,24 @@ class Slot(NamedTuple):
     block: int
 
 
-class Machine:
-    """Four processors with their caches, started cold on a memory of 2,048 bytes."""
+def _boards(units: Iterable[int]) -> _Number:
+    """The set of these units. One above 3 stands in it as unit 4, so that the library refuses it, however large it is."""
+    chosen = set(units)
+    for unit in chosen:
+        if not 0 <= unit < 1 << 32:
+            raise OverflowError(f"{unit} is no number of 32 bits")
+    return _u32(sum(1 << unit for unit in {min(unit, 4) for unit in chosen}))
 
-    def __init__(self, memory: Union[bytes, bytearray] = bytes(STORE)) -> None:
+
+class Machine:
+    """Four processors with their caches, started cold on a memory of 2,048 bytes. The units of `write_through` have write-through boards, the others
+    copyback boards."""
+
+    def __init__(self, memory: Union[bytes, bytearray] = bytes(STORE), write_through: Iterable[int] = ()) -> None:
         self._memory = _bytes(memory)
         self._cache = (_U8 * STORE)()
         self._directory = (_U8 * _DIRECTORY)()
-        _do("cold_start", self._memory, self._cache, self._directory)
+        _do("cold_start", self._memory, self._cache, _boards(write_through), self._directory)
 
     def _access(self, name: str, *numbers: int) -> Reply:
         answer = (_U32 * _ANSWER)()
@@ -178,7 +189,7 @@ class Machine:
         return self._access("load", unit, address)
 
     def store(self, unit: int, address: int, value: int) -> Reply:
-        """Unit stores a 32-bit value at address."""
+        """Unit stores a 32-bit value at address: a copyback unit in its cache only, a write-through unit in memory and in the copy that it holds."""
         return self._access("store", unit, address, value)
 
     def flush(self, unit: int, block: int) -> Reply:
@@ -198,6 +209,11 @@ class Machine:
             raise IndexError(f"no slot {slot} of unit {unit}")
         at = 2 * (16 * unit + slot)
         return Slot(State(self._directory[at]), self._directory[at + 1])
+
+    @property
+    def write_through(self) -> FrozenSet[int]:
+        """The units that have write-through boards, as the directory has them."""
+        return frozenset(unit for unit in range(4) if self._directory[128] >> unit & 1)
 
     @property
     def memory(self) -> bytes:

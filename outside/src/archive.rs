@@ -14,6 +14,7 @@ mod foreign {
         pub fn trainer_cold_start(
             memory: *const u8, memory_size: usize,
             cache: *mut u8, cache_size: usize,
+            write_through: u32,
             directory: *mut u8, directory_size: usize,
         ) -> u32;
         pub fn trainer_load(
@@ -107,11 +108,12 @@ mod foreign {
     }
 }
 
-pub fn cold_start(memory: &[u8], cache: &mut [u8], directory: &mut [u8]) -> u32 {
+pub fn cold_start(memory: &[u8], cache: &mut [u8], write_through: u32, directory: &mut [u8]) -> u32 {
     unsafe {
         foreign::trainer_cold_start(
             memory.as_ptr(), memory.len(),
             cache.as_mut_ptr(), cache.len(),
+            write_through,
             directory.as_mut_ptr(), directory.len(),
         )
     }

@@ -1,5 +1,5 @@
 //! What the drill program prints for a tape.
-use crate::machine::{Call, Machine, STORE_BYTES};
+use crate::machine::{Call, Machine, ALL_COPYBACK, STORE_BYTES};
 use crate::tape::{self, Found, Record};
 use std::fmt::Write;
 
@@ -20,7 +20,7 @@ pub fn drill(tape: &[u8]) -> String {
     if tape.len() > LONGEST_TAPE {
         return format!("refused 9 at {LONGEST_TAPE}\n");
     }
-    let mut machine = Machine::cold(&[0; STORE_BYTES]);
+    let mut machine = Machine::cold(&[0; STORE_BYTES], ALL_COPYBACK);
     let (mut text, mut place, mut calls, mut orders) = (String::new(), 0, 0, 0);
     loop {
         let record = match tape::read(tape, place) {
@@ -79,6 +79,19 @@ mod tests {
         assert_eq!(drill(&[0x06, 0x00, 0x05]), "total 0 calls 0 orders\n");
         assert_eq!(drill(&vec![0; LONGEST_TAPE + 1]), "refused 9 at 65536\n");
         assert_eq!(drill(&vec![0; LONGEST_TAPE]).lines().last(), Some("refused 5 at 65536"));
+    }
+
+    /// Every board is a copyback one, whatever orders stand on the tape.
+    #[test]
+    fn memory_writes_are_passed_over() {
+        assert_eq!(drill(&[0x03, 0x01, 0x04, 0x05, 0x01, 0x03, 0x01, 0x04, 0x05, 0x00]), "total 0 calls 0 orders\n");
+        assert_eq!(drill(&[0x03, 0x01, 0x04, 0x05, 0x02]), "refused 8 at 4\n");
+        assert_eq!(drill(&[0x03, 0x01, 0x05, 0x05, 0x00]), "refused 8 at 2\n");
+        let store_twice = |unit: u8| [0x03, unit, 0x04, 0x02, 0x00, 0x01, unit, 0x48, 0x09, 0x01, unit, 0x48, 0x0A];
+        for unit in 0..4 {
+            let text = format!("store {unit} 72 9 orders 1\nstore {unit} 72 10 orders 0\ntotal 2 calls 1 orders\n");
+            assert_eq!(drill(&store_twice(unit)), text);
+        }
     }
 
     #[test]

@@ -1,4 +1,4 @@
-//! The cache machine. A unit is a map from the blocks it holds to how it holds them, with the copies beside it;
+//! The cache machine. A unit is the kind of its board and a map from the blocks it holds to how it holds them, with the copies beside it;
 //! the two stores and the directory's bytes are taken in before a call and given back after it.
 use std::collections::BTreeMap;
 
@@ -7,13 +7,33 @@ pub const SLOTS: usize = 16;
 pub const BLOCKS: usize = 64;
 pub const BLOCK_BYTES: usize = 32;
 pub const STORE_BYTES: usize = 2048;
-/// Two bytes for each slot, slot s of unit u at 2 (16 u + s): state 0 I, 1 SU, 2 EM, then the block.
-pub const DIRECTORY_BYTES: usize = 128;
+/// Two bytes for each slot, slot s of unit u at 2 (16 u + s): state 0 I, 1 SU, 2 EM, then the block. Behind them the set of
+/// the units that have a write-through board.
+pub const DIRECTORY_BYTES: usize = 129;
+/// The place of that set.
+pub const SET_PLACE: usize = 128;
 
 pub const WRONG_SIZE: u32 = 1;
 pub const BROKEN_DIRECTORY: u32 = 2;
 pub const NO_UNIT: u32 = 3;
 pub const BAD_ADDRESS: u32 = 4;
+
+/// The kind of a unit's board.
+#[derive(Clone, Copy, Debug, PartialEq, Eq)]
+pub enum Kind {
+    Copyback,
+    WriteThrough,
+}
+
+pub type Kinds = [Kind; UNITS];
+pub const ALL_COPYBACK: Kinds = [Kind::Copyback; UNITS];
+
+/// The kinds by the set of the units that have a write-through board, unit 0 having weight 1, unit 3 weight 8; `None` where the
+/// set names a unit above 3.
+pub fn kinds_of(set: u32) -> Option<Kinds> {
+    let kind = |unit| if set >> unit & 1 == 1 { Kind::WriteThrough } else { Kind::Copyback };
+    (set < 1 << UNITS).then(|| std::array::from_fn(kind))
+}
 
 #[derive(Clone, Copy, Debug, PartialEq, Eq)]
 pub enum Held {
@@ -27,6 +47,7 @@ pub enum Command {
     ModifiedRead = 1,
     Invalidate = 2,
     Copyback = 3,
+    MemoryWrite = 4,
 }
 
 #[derive(Clone, Copy, Debug, PartialEq, Eq)]
@@ -62,6 +83,7 @@ type Line = [u8; BLOCK_BYTES];
 
 #[derive(Clone, Debug, PartialEq, Eq)]
 struct Unit {
+    kind: Kind,
     held: BTreeMap<u32, Held>,
     copies: [Line; SLOTS],
 }
@@ -80,18 +102,19 @@ fn slot_of(block: u32) -> usize {
     block as usize % SLOTS
 }
 
-/// The blocks each unit holds, or `None` where the bytes break a rule of the directory.
-fn units_of(directory: &[u8]) -> Option<Vec<BTreeMap<u32, Held>>> {
+/// The kind of each unit and the blocks it holds, or `None` where the bytes break a rule of the directory.
+fn units_of(directory: &[u8]) -> Option<(Kinds, Vec<BTreeMap<u32, Held>>)> {
     if directory.len() != DIRECTORY_BYTES {
         return None;
     }
+    let kinds = kinds_of(directory[SET_PLACE].into())?;
     let mut units = vec![BTreeMap::new(); UNITS];
-    for (number, pair) in directory.chunks_exact(2).enumerate() {
+    for (number, pair) in directory[..SET_PLACE].chunks_exact(2).enumerate() {
         let (unit, slot, block) = (number / SLOTS, number % SLOTS, pair[1] as u32);
         let held = match pair[0] {
             0 if block == 0 => continue,
             1 => Held::SharedUnmodified,
-            2 => Held::ExclusiveModified,
+            2 if kinds[unit] == Kind::Copyback => Held::ExclusiveModified,
             _ => return None,
         };
         if block as usize >= BLOCKS || slot_of(block) != slot {
@@ -105,14 +128,14 @@ fn units_of(directory: &[u8]) -> Option<Vec<BTreeMap<u32, Held>>> {
             return None;
         }
     }
-    Some(units)
+    Some((kinds, units))
 }
 
 impl Machine {
-    /// All slots invalid, the cache store all zeros, memory as lent.
-    pub fn cold(memory: &[u8]) -> Machine {
-        let unit = Unit { held: BTreeMap::new(), copies: [[0; BLOCK_BYTES]; SLOTS] };
-        Machine { units: vec![unit; UNITS], memory: lines(memory) }
+    /// All slots invalid, the cache store all zeros, memory as lent, the boards' kinds as chosen.
+    pub fn cold(memory: &[u8], kinds: Kinds) -> Machine {
+        let unit = |kind| Unit { kind, held: BTreeMap::new(), copies: [[0; BLOCK_BYTES]; SLOTS] };
+        Machine { units: kinds.map(unit).to_vec(), memory: lines(memory) }
     }
 
     /// The machine that directory and stores describe: tests 1, then 2.
@@ -120,12 +143,13 @@ impl Machine {
         if memory.len() != STORE_BYTES || cache.len() != STORE_BYTES {
             return Err(WRONG_SIZE);
         }
-        let held = units_of(directory).ok_or(BROKEN_DIRECTORY)?;
+        let (kinds, held) = units_of(directory).ok_or(BROKEN_DIRECTORY)?;
         let copies = lines(cache);
-        let units = held
+        let units = kinds
             .into_iter()
+            .zip(held)
             .zip(copies.chunks_exact(SLOTS))
-            .map(|(held, copies)| Unit { held, copies: copies.try_into().expect("sixteen slots") })
+            .map(|((kind, held), copies)| Unit { kind, held, copies: copies.try_into().expect("sixteen slots") })
             .collect();
         Ok(Machine { units, memory: lines(memory) })
     }
@@ -138,6 +162,7 @@ impl Machine {
                 bytes[at] = if held == Held::ExclusiveModified { 2 } else { 1 };
                 bytes[at + 1] = block as u8;
             }
+            bytes[SET_PLACE] |= u8::from(unit.kind == Kind::WriteThrough) << number;
         }
         bytes
     }
@@ -158,7 +183,10 @@ impl Machine {
             }
             Call::Store { unit, address, value } => {
                 let (unit, block, offset) = target(unit, address)?;
-                Ok(self.store(unit, block, offset, value))
+                Ok(match self.units[unit].kind {
+                    Kind::Copyback => self.store(unit, block, offset, value),
+                    Kind::WriteThrough => self.write_through(unit, block, offset, value),
+                })
             }
             Call::Flush { unit, block } => {
                 if unit as usize >= UNITS {
@@ -196,6 +224,7 @@ impl Machine {
         Reply { value: word.iter().fold(0, |sum, &byte| sum << 8 | byte as u32), orders }
     }
 
+    /// A store of a copyback board.
     fn store(&mut self, unit: usize, block: u32, offset: usize, value: u32) -> Reply {
         let mut orders = Vec::new();
         match self.units[unit].held.get(&block) {
@@ -210,8 +239,22 @@ impl Machine {
                 other.held.remove(&block);
             }
         }
-        for (place, shift) in [24, 16, 8, 0].into_iter().enumerate() {
-            self.units[unit].copies[slot_of(block)][offset + place] = (value >> shift) as u8;
+        put(&mut self.units[unit].copies[slot_of(block)], offset, value);
+        Reply { value: 0, orders }
+    }
+
+    /// A store of a write-through board: memory and the board's own copy, where it holds the block, take the word, and no other
+    /// unit holds the block any more.
+    fn write_through(&mut self, unit: usize, block: u32, offset: usize, value: u32) -> Reply {
+        let mut orders = Vec::new();
+        self.request(unit, Command::MemoryWrite, block, &mut orders);
+        put(&mut self.memory[block as usize], offset, value);
+        for (number, other) in self.units.iter_mut().enumerate() {
+            if number != unit {
+                other.held.remove(&block);
+            } else if other.held.contains_key(&block) {
+                put(&mut other.copies[slot_of(block)], offset, value);
+            }
         }
         Reply { value: 0, orders }
     }
@@ -225,7 +268,7 @@ impl Machine {
         Reply { value: 0, orders }
     }
 
-    /// The block's place in the unit is emptied, the order given (twice where another unit has the block EM), the copy filled.
+    /// The block's place in the unit is emptied, the order given, the copy filled.
     fn fetch(&mut self, unit: usize, block: u32, command: Command, orders: &mut Vec<Order>) {
         let slot = slot_of(block);
         let before = self.units[unit].held.iter().find(|(&b, _)| slot_of(b) == slot).map(|(&b, &h)| (b, h));
@@ -235,19 +278,32 @@ impl Machine {
             }
             self.units[unit].held.remove(&old);
         }
+        self.request(unit, command, block, orders);
+        self.units[unit].copies[slot] = self.memory[block as usize];
+        self.units[unit].held.insert(block, Held::SharedUnmodified);
+    }
+
+    /// The order. Where another unit has the block EM, it is retried: that unit copies the block back and keeps it SU, and the
+    /// order is given again.
+    fn request(&mut self, unit: usize, command: Command, block: u32, orders: &mut Vec<Order>) {
         if let Some(holder) = self.modifier(block) {
             orders.push(order(unit, command, block, true));
             self.copyback(holder, block, orders);
             self.units[holder].held.insert(block, Held::SharedUnmodified);
         }
         orders.push(order(unit, command, block, false));
-        self.units[unit].copies[slot] = self.memory[block as usize];
-        self.units[unit].held.insert(block, Held::SharedUnmodified);
     }
 
     fn copyback(&mut self, unit: usize, block: u32, orders: &mut Vec<Order>) {
         orders.push(order(unit, Command::Copyback, block, false));
         self.memory[block as usize] = self.units[unit].copies[slot_of(block)];
+    }
+}
+
+/// Puts a word into a block, most significant byte first.
+fn put(line: &mut Line, offset: usize, value: u32) {
+    for (place, shift) in [24, 16, 8, 0].into_iter().enumerate() {
+        line[offset + place] = (value >> shift) as u8;
     }
 }
 
@@ -272,7 +328,13 @@ mod tests {
     use Command::*;
 
     fn cold() -> Machine {
-        Machine::cold(&[0; STORE_BYTES])
+        Machine::cold(&[0; STORE_BYTES], ALL_COPYBACK)
+    }
+
+    /// Cold, with write-through boards for the units of the set; a byte of memory is its block's number and 100.
+    fn mixed(set: u32) -> Machine {
+        let memory: Vec<u8> = (0..STORE_BYTES).map(|place| (100 + place / BLOCK_BYTES) as u8).collect();
+        Machine::cold(&memory, kinds_of(set).unwrap())
     }
 
     fn load(unit: u32, address: u32) -> Call {
@@ -281,6 +343,16 @@ mod tests {
 
     fn store(unit: u32, address: u32, value: u32) -> Call {
         Call::Store { unit, address, value }
+    }
+
+    fn orders(machine: &mut Machine, call: Call) -> Vec<Order> {
+        machine.call(call).unwrap().orders
+    }
+
+    /// The valid slots: unit, state (1 SU, 2 EM), block.
+    fn valid(machine: &Machine) -> Vec<(usize, u8, u8)> {
+        let bytes = machine.directory();
+        (0..UNITS * SLOTS).filter(|n| bytes[2 * n] != 0).map(|n| (n / SLOTS, bytes[2 * n], bytes[2 * n + 1])).collect()
     }
 
     #[test]
@@ -354,5 +426,158 @@ mod tests {
         assert!(broken(&[(2, 1, 66)]), "a block is at most 63");
         assert!(broken(&[(2, 2, 18), (50, 1, 18)]), "EM in one unit, valid in another");
         assert!(broken(&[(2, 2, 18), (50, 2, 18)]), "EM in two units");
+    }
+
+    #[test]
+    fn what_breaks_a_mixed_directory() {
+        let store = [0; STORE_BYTES];
+        let broken = |set: u8, places: &[(usize, u8, u8)]| {
+            let mut directory = [0; DIRECTORY_BYTES];
+            directory[128] = set;
+            for &(slot, state, block) in places {
+                directory[2 * slot] = state;
+                directory[2 * slot + 1] = block;
+            }
+            Machine::open(&directory, &store, &store) == Err(2)
+        };
+        for unit in 0..UNITS {
+            let slot = 16 * unit + 2;
+            assert!(broken(1 << unit, &[(slot, 2, 18)]), "EM in write-through unit {unit}");
+            assert!(!broken(1 << unit, &[(slot, 1, 18)]), "SU in write-through unit {unit}");
+            assert!(!broken(15 - (1 << unit), &[(slot, 2, 18)]), "EM in unit {unit}, the only copyback one");
+            assert!(broken(15, &[(slot, 2, 18)]), "EM where all units are write-through");
+        }
+        for set in 0..=255 {
+            assert_eq!(broken(set, &[]), set > 15, "set {set}");
+        }
+        assert!(!broken(2, &[(18, 1, 18), (50, 1, 18)]), "a write-through and a copyback unit both SU");
+        assert!(broken(2, &[(18, 1, 18), (50, 2, 18)]), "EM beside a write-through unit");
+    }
+
+    #[test]
+    fn refusal_2_has_its_place_on_mixed_machines() {
+        let (mut directory, bytes) = ([0; DIRECTORY_BYTES], [0; STORE_BYTES]);
+        directory[128] = 16;
+        assert_eq!(Machine::open(&directory, &bytes[1..], &bytes), Err(1));
+        assert_eq!(Machine::open(&directory, &bytes, &bytes), Err(2));
+        directory[128] = 1;
+        directory[0] = 2;
+        assert_eq!(Machine::open(&directory, &bytes, &bytes[1..]), Err(1));
+        assert_eq!(Machine::open(&directory, &bytes, &bytes), Err(2));
+        directory[0] = 1;
+        let mut machine = Machine::open(&directory, &bytes, &bytes).unwrap();
+        assert_eq!(machine.call(store(4, 2, 0)), Err(3));
+        assert_eq!(machine.call(store(0, 2, 0)), Err(4));
+        assert_eq!((&machine.directory()[..], machine.memory()), (&directory[..], bytes.to_vec()));
+    }
+
+    #[test]
+    fn kinds_by_their_set() {
+        use Kind::{Copyback, WriteThrough};
+        assert_eq!(kinds_of(0), Some(ALL_COPYBACK));
+        assert_eq!(kinds_of(1), Some([WriteThrough, Copyback, Copyback, Copyback]));
+        assert_eq!(kinds_of(10), Some([Copyback, WriteThrough, Copyback, WriteThrough]));
+        assert_eq!(kinds_of(15), Some([WriteThrough; UNITS]));
+        for set in [16, 17, 32, 256, 1 << 31, u32::MAX] {
+            assert_eq!(kinds_of(set), None, "{set}");
+        }
+        for set in 0..16 {
+            let mut directory = [0; DIRECTORY_BYTES];
+            directory[128] = set as u8;
+            assert_eq!(mixed(set).directory(), directory);
+        }
+    }
+
+    #[test]
+    fn a_write_through_store_that_hits() {
+        let mut machine = mixed(2);
+        machine.call(load(1, 72)).unwrap();
+        let (mut memory, mut cache) = (machine.memory(), machine.cache());
+        assert_eq!(orders(&mut machine, store(1, 76, 0x0102_0304)), [order(1, MemoryWrite, 2, false)]);
+        memory[76..80].copy_from_slice(&[1, 2, 3, 4]);
+        cache[588..592].copy_from_slice(&[1, 2, 3, 4]);
+        assert_eq!((machine.memory(), machine.cache()), (memory, cache));
+        assert_eq!(valid(&machine), [(1, 1, 2)]);
+        assert_eq!(machine.peek(2), Ok(Newest::Memory { offset: 64 }));
+        assert_eq!(machine.call(load(1, 76)), Ok(Reply { value: 0x0102_0304, orders: vec![] }));
+    }
+
+    #[test]
+    fn a_write_through_store_that_misses_takes_no_slot() {
+        let mut machine = mixed(2);
+        machine.call(load(1, 584)).unwrap();
+        let (mut memory, cache) = (machine.memory(), machine.cache());
+        assert_eq!(orders(&mut machine, store(1, 72, 0x0102_0304)), [order(1, MemoryWrite, 2, false)]);
+        memory[72..76].copy_from_slice(&[1, 2, 3, 4]);
+        assert_eq!((machine.memory(), machine.cache()), (memory, cache));
+        assert_eq!(valid(&machine), [(1, 1, 18)]);
+        assert_eq!(machine.call(load(1, 584)), Ok(Reply { value: 0x7676_7676, orders: vec![] }));
+        let mut empty = mixed(2);
+        assert_eq!(orders(&mut empty, store(1, 72, 5)), [order(1, MemoryWrite, 2, false)]);
+        assert_eq!(valid(&empty), []);
+        assert_eq!(empty.cache(), [0; STORE_BYTES]);
+    }
+
+    #[test]
+    fn a_write_through_store_is_retried_once() {
+        let mut machine = mixed(2);
+        machine.call(store(3, 72, 9)).unwrap();
+        machine.call(load(1, 584)).unwrap();
+        let (mut memory, cache) = (machine.memory(), machine.cache());
+        let given = [order(1, MemoryWrite, 2, true), order(3, Copyback, 2, false), order(1, MemoryWrite, 2, false)];
+        assert_eq!(orders(&mut machine, store(1, 76, 0x0102_0304)), given);
+        memory[72..80].copy_from_slice(&[0, 0, 0, 9, 1, 2, 3, 4]);
+        assert_eq!((machine.memory(), machine.cache()), (memory, cache));
+        assert_eq!(valid(&machine), [(1, 1, 18)]);
+        assert_eq!(orders(&mut machine, store(1, 72, 8)), [order(1, MemoryWrite, 2, false)]);
+    }
+
+    #[test]
+    fn a_write_through_store_leaves_no_other_holder() {
+        let mut machine = mixed(10);
+        for unit in 0..4 {
+            machine.call(load(unit, 72)).unwrap();
+        }
+        machine.call(load(2, 96)).unwrap();
+        let mut cache = machine.cache();
+        assert_eq!(orders(&mut machine, store(1, 72, 0x0102_0304)), [order(1, MemoryWrite, 2, false)]);
+        cache[584..588].copy_from_slice(&[1, 2, 3, 4]);
+        assert_eq!(machine.cache(), cache);
+        assert_eq!(valid(&machine), [(1, 1, 2), (2, 1, 3)]);
+        assert_eq!(machine.call(load(3, 72)), Ok(Reply { value: 0x0102_0304, orders: vec![order(3, Read, 2, false)] }));
+        // A miss, too.
+        machine.call(load(0, 72)).unwrap();
+        machine.call(Call::Flush { unit: 1, block: 2 }).unwrap();
+        assert_eq!(orders(&mut machine, store(1, 72, 6)), [order(1, MemoryWrite, 2, false)]);
+        assert_eq!(valid(&machine), [(2, 1, 3)]);
+    }
+
+    #[test]
+    fn loads_and_flushes_of_a_write_through_unit() {
+        let mut machine = mixed(1);
+        machine.call(store(2, 72, 9)).unwrap();
+        let given = vec![order(0, Read, 2, true), order(2, Copyback, 2, false), order(0, Read, 2, false)];
+        assert_eq!(machine.call(load(0, 72)), Ok(Reply { value: 9, orders: given }));
+        assert_eq!(valid(&machine), [(0, 1, 2), (2, 1, 2)]);
+        assert_eq!(orders(&mut machine, load(0, 72)), []);
+        assert_eq!(orders(&mut machine, load(0, 584)), [order(0, Read, 18, false)]);
+        assert_eq!(valid(&machine), [(0, 1, 18), (2, 1, 2)]);
+        assert_eq!(orders(&mut machine, Call::Flush { unit: 0, block: 2 }), []);
+        assert_eq!(valid(&machine), [(0, 1, 18), (2, 1, 2)]);
+        assert_eq!(orders(&mut machine, Call::Flush { unit: 0, block: 18 }), []);
+        assert_eq!(valid(&machine), [(2, 1, 2)]);
+    }
+
+    #[test]
+    fn a_copyback_store_beside_a_write_through_holder() {
+        let mut machine = mixed(1);
+        machine.call(load(0, 72)).unwrap();
+        assert_eq!(orders(&mut machine, store(2, 72, 9)), [order(2, ModifiedRead, 2, false)]);
+        assert_eq!(valid(&machine), [(2, 2, 2)]);
+        assert_eq!(machine.peek(2), Ok(Newest::Cache { offset: 1088 }));
+        machine.call(load(0, 72)).unwrap();
+        assert_eq!(machine.peek(2), Ok(Newest::Memory { offset: 64 }));
+        assert_eq!(orders(&mut machine, store(2, 72, 10)), [order(2, Invalidate, 2, false)]);
+        assert_eq!(valid(&machine), [(2, 2, 2)]);
     }
 }

@@ -32,7 +32,7 @@ enum Rule {
     Address,
     /// 0 to 7, and not the field before.
     OtherParty,
-    /// 0 or 1, and 0 unless the command two fields before is a read or a modified read.
+    /// 0 or 1, and 0 where the command two fields before is an invalidate or a copyback.
     Retried,
 }
 
@@ -47,7 +47,7 @@ fn rules(kind: u64) -> Option<&'static [Rule]> {
         0 => &[UpTo(3), Address],
         1 => &[UpTo(3), Address, WORD],
         2 => &[UpTo(3), UpTo(63)],
-        3 => &[UpTo(3), UpTo(3), UpTo(63), Retried],
+        3 => &[UpTo(3), UpTo(4), UpTo(63), Retried],
         4 => &[UpTo(7), OtherParty, UpTo(255), UpTo(255)],
         5 => &[UpTo(7), OtherParty, UpTo(255), UpTo(1), WORD, UpTo(7)],
         6 => &[UpTo(3), WORD],
@@ -66,7 +66,7 @@ fn keeps(rule: Rule, before: &[u64], field: u64) -> bool {
         Rule::UpTo(most) => field <= most,
         Rule::Address => field % 4 == 0 && field <= 2044,
         Rule::OtherParty => field <= 7 && before.last() != Some(&field),
-        Rule::Retried => field <= u64::from(before[before.len() - 2] < 2),
+        Rule::Retried => field <= u64::from(!matches!(before[before.len() - 2], 2 | 3)),
     }
 }
 
@@ -331,5 +331,28 @@ mod tests {
         assert!(read(&[0x00, 0x00, 0xFC, 0x0F], 0).is_ok()); // 2,044
         assert!(read(&[0x02, 0x00, 0x3F], 0).is_ok()); // block 63
         assert!(read(&[0x03, 0x00, 0x01, 0x05, 0x01], 0).is_ok());
+    }
+
+    /// Commands 0, 1 and 4 may be retried, 2 and 3 may not, and there is none above 4.
+    #[test]
+    fn commands() {
+        for (command, most) in [(0, 1), (1, 1), (2, 0), (3, 0), (4, 1)] {
+            for retried in 0..4 {
+                let (bytes, order) = ([0x03, 0x02, command, 0x05, retried], record(3, &[2, command.into(), 5, retried.into()]));
+                if retried <= most {
+                    assert_eq!(read(&bytes, 0), Ok(Found::Record(order.clone(), 5)));
+                    assert_eq!(write(&order, 5), Ok(bytes.to_vec()));
+                    assert_eq!(size(&order), Ok(5));
+                } else {
+                    refused(&bytes, 8, 4);
+                    assert_eq!(write(&order, 5), Err(8));
+                    assert_eq!(size(&order), Err(8));
+                }
+            }
+        }
+        for command in 5..128 {
+            refused(&[0x03, 0x02, command, 0x05, 0x00], 8, 2);
+            assert_eq!(write(&record(3, &[2, command.into(), 5, 0]), 5), Err(8));
+        }
     }
 }

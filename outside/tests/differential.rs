@@ -5,7 +5,7 @@ mod common;
 use common::{code_of, same, Counts};
 use outside::archive::{self, ANSWER_NUMBERS, RECORD_NUMBERS};
 use outside::drill::{drill, LONGEST_TAPE};
-use outside::machine::{Call, Machine, Newest, Reply, DIRECTORY_BYTES, STORE_BYTES};
+use outside::machine::{kinds_of, Call, Machine, Newest, Reply, DIRECTORY_BYTES, SET_PLACE, STORE_BYTES};
 use outside::random::Random;
 use outside::tape::{self, Found, Record};
 use std::collections::BTreeSet;
@@ -13,12 +13,14 @@ use std::collections::BTreeSet;
 const UNTOUCHED: u32 = 0xA5A5_A5A5;
 /// Bytes that are room for any record.
 const ROOM: usize = 40;
-/// One byte for each number of a record: of each kind one that is read and written.
-const RECORDS: [&[u8]; 8] = [
+/// One byte for each number of a record: of each kind one that is read and written, and of an order three.
+const RECORDS: [&[u8]; 10] = [
     &[0, 3, 4],
     &[1, 2, 8, 5],
     &[2, 1, 63],
     &[3, 3, 1, 62, 1],
+    &[3, 2, 4, 61, 1],
+    &[3, 1, 2, 60, 0],
     &[4, 7, 6, 5, 4],
     &[5, 6, 7, 5, 1, 4, 3],
     &[6, 2, 9],
@@ -103,47 +105,78 @@ fn random_call(random: &mut Random, blocks: u32) -> Call {
     }
 }
 
-/// Lists of calls after a cold start, each call on what the last one left.
-fn lists_of_calls(counts: &mut Counts) {
-    for seed in 0..1204 {
-        let mut random = Random::new(seed);
-        let length = if seed < 1200 { 200 } else { 25_000 };
-        let memory: Vec<u8> = (0..STORE_BYTES).map(|_| random.byte()).collect();
-        let mut lent = Lent {
-            directory: (0..DIRECTORY_BYTES).map(|_| random.byte()).collect(),
-            cache: (0..STORE_BYTES).map(|_| random.byte()).collect(),
-            answer: vec![0; ANSWER_NUMBERS],
-            memory,
-        };
-        let code = archive::cold_start(&lent.memory, &mut lent.cache, &mut lent.directory);
-        same("the cold start of a list", &seed, code, 0);
-        let mut machine = Machine::cold(&lent.memory);
-        let blocks = 1 + random.below(4);
-        for step in 0..length {
-            let call = random_call(&mut random, blocks);
-            let reply = machine.call(call);
-            let code = lent.call(call);
-            let context = (seed, step, call);
-            same("a call's refusal", &context, code, code_of(&reply));
-            same("a call's answer", &context, lent.answer.clone(), answer_after(&reply, ANSWER_NUMBERS));
-            same("the directory after a call", &context, &lent.directory, &machine.directory());
-            same("the memory store after a call", &context, &lent.memory, &machine.memory());
-            same("the cache store after a call", &context, &lent.cache, &machine.cache());
-            counts.one(name(call), code);
-            let block = if random.one_in(20) { random.next() } else { random.below(70) };
-            let seen = lent.peek(block);
-            same("a peek", &(seed, step, block), seen, peeked(machine.peek(block)));
-            counts.one("peeks", seen.0);
-        }
+/// Both machines cold on random memory, the proved one on spaces with anything in them.
+fn cold_pair(random: &mut Random, write_through: u32) -> (Lent, Machine) {
+    let mut bytes = |size: usize| (0..size).map(|_| random.byte()).collect::<Vec<u8>>();
+    let (memory, directory, cache) = (bytes(STORE_BYTES), bytes(DIRECTORY_BYTES), bytes(STORE_BYTES));
+    let mut lent = Lent { directory, memory, cache, answer: vec![0; ANSWER_NUMBERS] };
+    let code = archive::cold_start(&lent.memory, &mut lent.cache, write_through, &mut lent.directory);
+    same("the cold start of a list", &write_through, code, 0);
+    let machine = Machine::cold(&lent.memory, kinds_of(write_through).expect("a set below 16"));
+    same("the directory after a cold start", &write_through, &lent.directory, &machine.directory());
+    (lent, machine)
+}
+
+/// One call both ways, and a peek after it; gives the call's answer.
+fn call_both(counts: &mut Counts, lent: &mut Lent, machine: &mut Machine, call: Call, block: u32, at: (u64, u32)) -> Result<Reply, u32> {
+    let reply = machine.call(call);
+    let code = lent.call(call);
+    let context = (at, call);
+    same("a call's refusal", &context, code, code_of(&reply));
+    same("a call's answer", &context, lent.answer.clone(), answer_after(&reply, ANSWER_NUMBERS));
+    same("the directory after a call", &context, &lent.directory, &machine.directory());
+    same("the memory store after a call", &context, &lent.memory, &machine.memory());
+    same("the cache store after a call", &context, &lent.cache, &machine.cache());
+    counts.one(name(call), code);
+    let seen = lent.peek(block);
+    same("a peek", &(at, block), seen, peeked(machine.peek(block)));
+    counts.one("peeks", seen.0);
+    reply
+}
+
+/// What a store was: whether by a write-through unit, and how many orders it gave.
+fn store_of(call: Call, reply: &Result<Reply, u32>, write_through: u32) -> Option<(bool, usize)> {
+    match (call, reply) {
+        (Call::Store { unit, .. }, Ok(reply)) => Some((write_through >> unit & 1 == 1, reply.orders.len())),
+        _ => None,
     }
+}
+
+/// A list of calls after a cold start with any boards, each call on what the last one left. Gives the set of write-through units.
+fn list_of_calls(counts: &mut Counts, seed: u64, length: u32, stores: &mut BTreeSet<(bool, usize)>) -> u32 {
+    let mut random = Random::new(seed);
+    let write_through = random.below(16);
+    let (mut lent, mut machine) = cold_pair(&mut random, write_through);
+    let blocks = 1 + random.below(4);
+    for step in 0..length {
+        let call = random_call(&mut random, blocks);
+        let block = if random.one_in(20) { random.next() } else { random.below(70) };
+        let reply = call_both(counts, &mut lent, &mut machine, call, block, (seed, step));
+        stores.extend(store_of(call, &reply, write_through));
+    }
+    write_through
+}
+
+fn lists_of_calls(counts: &mut Counts) {
+    let (mut sets, mut stores) = (BTreeSet::new(), BTreeSet::new());
+    for seed in 0..1204 {
+        let length = if seed < 1200 { 200 } else { 25_000 };
+        sets.insert(list_of_calls(counts, seed, length, &mut stores));
+    }
+    same("the sets of write-through units", &"", sets, (0..16).collect());
+    let met = [(false, 0), (false, 1), (false, 2), (false, 3), (false, 4), (true, 1), (true, 3)];
+    same("the stores by kind of board and count of orders", &"", stores, met.into());
 }
 
 /// A directory that keeps the rules, with many blocks in several units.
 fn sound_directory(random: &mut Random) -> Vec<u8> {
     let mut bytes = vec![0; DIRECTORY_BYTES];
+    let write_through = if random.one_in(3) { 0 } else { random.below(16) };
+    bytes[SET_PLACE] = write_through as u8;
     for slot in 0..16u32 {
         let block = |random: &mut Random| (16 * random.below(4) + slot) as u8;
-        let exclusive = if random.one_in(2) { Some((random.below(4), block(random))) } else { None };
+        let owner = random.below(4);
+        let exclusive = if random.one_in(2) && write_through >> owner & 1 == 0 { Some((owner, block(random))) } else { None };
         for unit in 0..4 {
             let at = 2 * (16 * unit + slot) as usize;
             match exclusive {
@@ -167,66 +200,117 @@ fn random_size(random: &mut Random, right: usize) -> usize {
     }
 }
 
-/// Single calls on any directory and stores of any size.
+/// A directory that mostly keeps the rules, else with some bytes that are anything, with an EM slot in any unit, with any set of write-through units, above
+/// 15 too, or of another size.
+fn random_directory(random: &mut Random) -> Vec<u8> {
+    let mut directory = sound_directory(random);
+    for _ in 0..random.pick(&[0, 0, 0, 1, 1, 2, 8]) {
+        let at = random.below(DIRECTORY_BYTES as u32) as usize;
+        directory[at] = if random.one_in(2) { random.below(4) as u8 } else { random.byte() % 80 };
+    }
+    match random.below(60) {
+        0 | 1 => directory.iter_mut().for_each(|byte| *byte = random.byte()),
+        2 => directory[SET_PLACE] = random.byte(),
+        3 | 4 => directory[SET_PLACE] = random.below(20) as u8,
+        5 | 6 => {
+            let slot = random.below(64) as usize;
+            directory[2 * slot..2 * slot + 2].copy_from_slice(&[2, (16 * random.below(4) + slot as u32 % 16) as u8]);
+        }
+        _ => {}
+    }
+    let size = random_size(random, DIRECTORY_BYTES);
+    directory.resize(size, 0);
+    directory
+}
+
+/// What a directory of the right size has of the kinds: nothing but copyback boards, boards of both kinds, only write-through ones, an EM slot of a
+/// write-through unit, a unit above 3.
+fn kinds_in(directory: &[u8]) -> Option<&'static str> {
+    let set = *directory.get(SET_PLACE).filter(|_| directory.len() == DIRECTORY_BYTES)?;
+    let modified = (0..64).any(|n| directory[2 * n] == 2 && set >> (n / 16) & 1 == 1);
+    Some(match set {
+        16.. => "a unit above 3",
+        _ if modified => "an EM slot of a write-through unit",
+        0 => "copyback boards",
+        15 => "write-through boards",
+        _ => "boards of both kinds",
+    })
+}
+
+/// A single call, and a peek before it, on any directory and stores of any size. Gives what the directory has of the kinds, and the call's number.
+fn single_call(counts: &mut Counts, seed: u64) -> Option<(&'static str, u32)> {
+    let mut random = Random::new(1_000_000 + seed);
+    let directory = random_directory(&mut random);
+    let kinds = kinds_in(&directory);
+    let mut store = || {
+        let size = random_size(&mut random, STORE_BYTES);
+        let (seed, step) = (random.byte(), random.byte() | 1);
+        (0..size).map(|n| seed.wrapping_add(step.wrapping_mul(n as u8)).wrapping_add((n / 32) as u8)).collect::<Vec<u8>>()
+    };
+    let (memory, cache) = (store(), store());
+    let space = random.pick(&[ANSWER_NUMBERS, ANSWER_NUMBERS, ANSWER_NUMBERS, 0, 17, 19, 30]);
+    let mut lent = Lent { directory, memory, cache, answer: vec![0; space] };
+    let before = lent.clone();
+    let call = random_call(&mut random, 4);
+    let room = if space < ANSWER_NUMBERS { Err(tape::NO_ROOM) } else { Ok(()) };
+    let opened = Machine::open(&lent.directory, &lent.memory, &lent.cache);
+
+    let block = if random.one_in(5) { random.next() } else { random.below(66) };
+    let seen = lent.peek(block);
+    same("a peek", &(seed, block, &lent), seen, peeked(opened.clone().and_then(|machine| machine.peek(block))));
+    counts.one("peeks", seen.0);
+
+    let code = lent.call(call);
+    let mut after = room.and_then(|()| opened);
+    let reply = after.as_mut().map_err(|code| *code).and_then(|machine| machine.call(call));
+    let context = (seed, call, &before);
+    same("a call's refusal", &context, code, code_of(&reply));
+    same("a call's answer", &context, lent.answer.clone(), answer_after(&reply, space));
+    let left = match after {
+        Ok(machine) => (machine.directory(), machine.memory(), machine.cache()),
+        Err(_) => (before.directory.clone(), before.memory.clone(), before.cache.clone()),
+    };
+    same("what a call leaves", &context, (lent.directory, lent.memory, lent.cache), left);
+    counts.one(name(call), code);
+    kinds.map(|kinds| (kinds, code))
+}
+
 fn single_calls(counts: &mut Counts) {
-    for seed in 0..120_000 {
-        let mut random = Random::new(1_000_000 + seed);
-        let mut directory = sound_directory(&mut random);
-        for _ in 0..random.pick(&[0, 0, 0, 1, 1, 2, 8]) {
-            let at = random.below(DIRECTORY_BYTES as u32) as usize;
-            directory[at] = if random.one_in(2) { random.below(4) as u8 } else { random.byte() % 80 };
-        }
-        if random.one_in(30) {
-            directory.iter_mut().for_each(|byte| *byte = random.byte());
-        }
-        let size = random_size(&mut random, DIRECTORY_BYTES);
-        directory.resize(size, 0);
-        let mut store = || {
-            let size = random_size(&mut random, STORE_BYTES);
-            let (seed, step) = (random.byte(), random.byte() | 1);
-            (0..size).map(|n| seed.wrapping_add(step.wrapping_mul(n as u8)).wrapping_add((n / 32) as u8)).collect::<Vec<u8>>()
-        };
-        let (memory, cache) = (store(), store());
-        let space = random.pick(&[ANSWER_NUMBERS, ANSWER_NUMBERS, ANSWER_NUMBERS, 0, 17, 19, 30]);
-        let mut lent = Lent { directory, memory, cache, answer: vec![0; space] };
-        let before = lent.clone();
-        let call = random_call(&mut random, 4);
-        let room = if space < ANSWER_NUMBERS { Err(tape::NO_ROOM) } else { Ok(()) };
-        let opened = Machine::open(&lent.directory, &lent.memory, &lent.cache);
-
-        let block = if random.one_in(5) { random.next() } else { random.below(66) };
-        let seen = lent.peek(block);
-        same("a peek", &(seed, block, &lent), seen, peeked(opened.clone().and_then(|machine| machine.peek(block))));
-        counts.one("peeks", seen.0);
-
-        let code = lent.call(call);
-        let mut after = room.and_then(|()| opened);
-        let reply = after.as_mut().map_err(|code| *code).and_then(|machine| machine.call(call));
-        let context = (seed, call, &before);
-        same("a call's refusal", &context, code, code_of(&reply));
-        same("a call's answer", &context, lent.answer.clone(), answer_after(&reply, space));
-        let left = match after {
-            Ok(machine) => (machine.directory(), machine.memory(), machine.cache()),
-            Err(_) => (before.directory.clone(), before.memory.clone(), before.cache.clone()),
-        };
-        same("what a call leaves", &context, (lent.directory, lent.memory, lent.cache), left);
-        counts.one(name(call), code);
+    let met: BTreeSet<(&str, u32)> = (0..120_000).filter_map(|seed| single_call(counts, seed)).collect();
+    let codes = |kinds: &str| met.iter().filter(|(what, _)| *what == kinds).map(|(_, code)| *code).collect::<Vec<u32>>();
+    let (any, broken): (&[u32], &[u32]) = (&[0, 1, 2, 3, 4, 9], &[1, 2, 9]);
+    let sound = [("copyback boards", any), ("boards of both kinds", any), ("write-through boards", any)];
+    for (kinds, numbers) in sound.into_iter().chain([("an EM slot of a write-through unit", broken), ("a unit above 3", broken)]) {
+        same("the numbers of refusal by the kinds in the directory", &kinds, codes(kinds), numbers.to_vec());
     }
 }
 
-/// Cold starts on stores and directory spaces of any size.
+/// A set of write-through units, one in three with a unit above 3.
+fn random_set(random: &mut Random) -> u32 {
+    match random.below(6) {
+        0 => random.pick(&[16, 17, 31, 32, 64, 128, 255, 256, 1 << 16, 1 << 31, u32::MAX - 15, u32::MAX]),
+        1 => random.next(),
+        _ => random.below(16),
+    }
+}
+
+/// Cold starts on stores and directory spaces of any size, with any set of write-through units.
 fn cold_starts(counts: &mut Counts) {
     for seed in 0..20_000 {
         let mut random = Random::new(2_000_000 + seed);
         let memory = vec![random.byte(); random_size(&mut random, STORE_BYTES)];
         let mut cache = vec![random.byte(); random_size(&mut random, STORE_BYTES)];
         let mut directory = vec![random.byte(); random_size(&mut random, DIRECTORY_BYTES)];
-        let context = (seed, memory.len(), cache.len(), directory.len());
+        let write_through = random_set(&mut random);
+        let context = (seed, memory.len(), cache.len(), directory.len(), write_through);
         let (mut cache_after, mut directory_after) = (cache.clone(), directory.clone());
         let expected = if directory.len() < DIRECTORY_BYTES {
             tape::NO_ROOM
+        } else if write_through > 15 {
+            3
         } else {
             directory_after[..DIRECTORY_BYTES].fill(0);
+            directory_after[SET_PLACE] = write_through as u8;
             if memory.len() == STORE_BYTES && cache.len() == STORE_BYTES {
                 cache_after.fill(0);
                 0
@@ -234,7 +318,7 @@ fn cold_starts(counts: &mut Counts) {
                 1
             }
         };
-        let code = archive::cold_start(&memory, &mut cache, &mut directory);
+        let code = archive::cold_start(&memory, &mut cache, write_through, &mut directory);
         same("a cold start", &context, (code, cache, directory), (expected, cache_after, directory_after));
         counts.one("cold starts", code);
     }
@@ -274,7 +358,7 @@ fn random_field(random: &mut Random, kind: u64, place: usize) -> u64 {
             wide >> random.below(32)
         }
         (3, 0) => random.below(4),
-        (3, 1) => random.below(4),
+        (3, 1) => random.below(6),
         (3, 2) => random.below(64),
         (3, _) => random.below(2),
         (4 | 5, 0 | 1) => random.below(8),
@@ -577,7 +661,7 @@ fn main() {
     borders(&mut at_borders);
     let calls: u64 = ["loads", "stores", "flushes"].iter().map(|what| counts.compared[what]).sum();
     let access: &[u32] = &[0, 1, 2, 3, 4, 9];
-    counts.expect(&[("cold starts", &[0, 1, 9]), ("loads", access), ("stores", access), ("flushes", access), ("peeks", &[0, 1, 2, 4])]);
+    counts.expect(&[("cold starts", &[0, 1, 3, 9]), ("loads", access), ("stores", access), ("flushes", access), ("peeks", &[0, 1, 2, 4])]);
     counts.expect(&[("records read", &[0, 5, 6, 7, 8, 9]), ("records written", &[0, 7, 8, 9]), ("drills", &[0, 9])]);
     counts.expect(&[("sizes of records", &[0, 7, 8]), ("ends of a drill's text", &[0, 5, 6, 7, 8, 9])]);
     at_borders.expect(&[("records read", &[0, 5, 6, 7, 8]), ("sizes of records", &[0, 7, 8]), ("records written", &[0, 7, 8, 9])]);

@@ -1,6 +1,7 @@
 // Blocks of 32 bytes and words of 4 bytes in a lent store, and the bytes that an access moves. Where a store has no such block or word, nothing is moved,
 // and the word reads as 0. A block is moved through an array by value.
 ghost use mathlib.Core.Path.{_≡_};
+ghost use mathlib.Core.Bool.{cond};
 ghost use Prim.Native.Nat.{_+_, _*_, _<_, _≤_};
 ghost use lib.ListN.{length, replicate};
 ghost use Rattle.coherence.specs.Bytes.{blockAt, putBlock};
@@ -73,6 +74,15 @@ pub fn put_word(store: &mut [u8], at: u32, word: u32)
         store[i + 1] = (word / 65536 % 256) as u8;
         store[i + 2] = (word / 256 % 256) as u8;
         store[i + 3] = (word % 256) as u8;
+    }
+}
+
+// The same where `held`, else nothing.
+pub fn put_word_if(held: bool, store: &mut [u8], at: u32, word: u32)
+    ensures { λ _. ⌜ now (store .exit) ≡ cond held (wordPut (now (store .entry)) at word) (now (store .entry)) ⌝ }
+{
+    if held {
+        put_word(store, at, word);
     }
 }
 

@@ -12,14 +12,15 @@ use Rattle.coherence.specs.declared.Call.{Call}
 use Rattle.coherence.specs.declared.Directory.{Directory}
 use Rattle.coherence.specs.Access.{ready}
 use Rattle.coherence.specs.Calls.{refusal, answer, memoryAfter, cacheAfter, answers, afterAll}
+use Rattle.coherence.specs.declared.Settings.{Settings}
 use Rattle.coherence.proofs.Counts.{refused}
+use Rattle.coherence.proofs.Shapes.{answer-slots, answer-settings}
 use Rattle.layout.specs.Directory.{decoded}
 use Rattle.layout.specs.Answer.{answerNumbers}
-use Rattle.layout.proofs.Inverse.{inverse, length-decoded}
+use Rattle.layout.proofs.Inverse.{inverse, length-decoded, boards-decoded}
 use Rattle.layout.proofs.AnswerLaws.{length-answer}
 use Rattle.capi_machine.specs.Call.{returned, directoryLeft, memoryLeft, cacheLeft, answerLeft}
 use Rattle.capi_machine.specs.Follow.{Lent, called, calledAll, Heard, heard, heardAll, told, Follows, FollowsOn}
-use Rattle.capi_machine.proofs.Sizes.{answer-size}
 
 -- one call
 record Step (w : Lent) (c : Call) : Type 0 where
@@ -51,7 +52,8 @@ step w c h = go (eqb (refusal d m k c) 0) refl
         let size : length r ≡ 18 = length-answer (answer d m k c) in
         record {
           hears = rw (l, q) (ap (λ (x : List ℕ). record { number = refusal d m k c; answer = x }) (take-at r (drop 18 (w .answer)) 18 size));
-          directory = rw (l, q) (inverse .back (answer d m k c .directory) (answer-size d m k c ∙ length-decoded (w .directory)));
+          directory = rw (l, q) (inverse .back (answer d m k c .directory) (answer-slots d m k c ∙ length-decoded (w .directory))
+              (ap (λ (g : Settings). length (g .boards)) (answer-settings d m k c) ∙ boards-decoded (w .directory)));
           memory = rw (l, q);
           cache = rw (l, q);
           room = rw (l, q) (simp length-append (omega arith));

@@ -1,5 +1,4 @@
 pub mod StartLaws
 pub mod CallLaws
 pub mod PlaceLaws
-pub mod Sizes
 pub mod FollowLaws

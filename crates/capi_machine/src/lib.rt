@@ -1,28 +1,38 @@
 // The cache machine for programs in other languages: `include/trainer.h` declares these functions. Slices cross as pointer and length, all else as
 // numbers. Each function is total, and a refused call writes nothing but what its contract says.
+use boards::settings_of;
 use crossing::byte;
 use layout::decode;
 use layout::encode;
+use layout::encode_slots;
 use layout::put_answer;
 use order::NO_ROOM;
+use order::NO_UNIT;
 use slots::owner;
 ghost use mathlib.Core.Path.{_≡_};
 ghost use Rattle.coherence.specs.declared.Call.the-variants.{Load, Store, Flush};
-ghost use Rattle.coherence.specs.Slots.{coldDirectory};
-ghost use Rattle.layout.specs.Directory.{directoryPut};
-ghost use Rattle.capi_machine.specs.Start.{startReturned, startCache};
+ghost use Rattle.capi_machine.specs.Start.{startReturned, startCache, startDirectory};
 ghost use Rattle.capi_machine.specs.Call.{narrowed, returned, directoryLeft, memoryLeft, cacheLeft, answerLeft};
 ghost use Rattle.capi_machine.specs.Place.{peekReturned, storeLeft, offsetLeft};
 
-// Starts cold, and writes the directory.
+// Starts cold with the boards that the set `write_through` spells, and writes the directory.
 #[no_mangle]
-pub extern "C" fn trainer_cold_start(memory: &[u8], cache: &mut [u8], directory: &mut [u8]) -> u32
-    ensures { λ r. ⌜ (r ≡ startReturned (now (memory .entry)) (now (cache .entry)) (now (directory .entry))) × (now (cache .exit) ≡ startCache (now (memory .entry)) (now (cache .entry)) (now (directory .entry))) × (now (directory .exit) ≡ directoryPut coldDirectory (now (directory .entry))) ⌝ }
+pub extern "C" fn trainer_cold_start(
+    memory: &[u8],
+    cache: &mut [u8],
+    write_through: u32,
+    directory: &mut [u8],
+) -> u32
+    ensures { λ r. ⌜ (r ≡ startReturned (now (memory .entry)) (now (cache .entry)) «write_through» (now (directory .entry))) × (now (cache .exit) ≡ startCache (now (memory .entry)) (now (cache .entry)) «write_through» (now (directory .entry))) × (now (directory .exit) ≡ startDirectory «write_through» (now (directory .entry))) ⌝ }
 {
-    if directory.len() < 128 {
+    if directory.len() < 129 {
         return NO_ROOM as u32;
     }
-    let start = machine::cold_start(memory, cache);
+    if write_through > 15 {
+        return NO_UNIT as u32;
+    }
+    let settings = settings_of(write_through as u8);
+    let start = machine::cold_start(settings, memory, cache);
     let left = start.directory;
     encode(left, directory);
     start.refusal as u32
@@ -47,7 +57,7 @@ pub extern "C" fn trainer_load(
     let a = machine::load(d, memory, cache, byte(unit as u64), address);
     if a.refusal == 0 {
         let left = a.directory;
-        encode(left, directory);
+        encode_slots(left, directory);
         put_answer(a, answer);
         return 0;
     }
@@ -74,7 +84,7 @@ pub extern "C" fn trainer_store(
     let a = machine::store(d, memory, cache, byte(unit as u64), address, value);
     if a.refusal == 0 {
         let left = a.directory;
-        encode(left, directory);
+        encode_slots(left, directory);
         put_answer(a, answer);
         return 0;
     }
@@ -100,7 +110,7 @@ pub extern "C" fn trainer_flush(
     let a = machine::flush(d, memory, cache, byte(unit as u64), byte(block as u64));
     if a.refusal == 0 {
         let left = a.directory;
-        encode(left, directory);
+        encode_slots(left, directory);
         put_answer(a, answer);
         return 0;
     }
@@ -125,7 +135,8 @@ pub extern "C" fn trainer_peek(
     if refusal != 0 {
         return refusal as u32;
     }
-    let unit = owner(d, b);
+    let slots = d.slots;
+    let unit = owner(slots, b);
     if unit < 4 {
         *store = 1;
         *offset = 512 * (unit as u32) + 32 * ((b % 16) as u32);

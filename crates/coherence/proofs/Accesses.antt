@@ -10,16 +10,18 @@ use lib.ListN.{length}
 use lib.Dec.{eqb}
 use borrow.Author.Tests.{eqb-true, eqb-false, eq-eqb, ne-eqb}
 use Rattle.order.specs.declared.Command.{Command}
-use Rattle.order.specs.declared.Command.the-variants.{Read, ModifiedRead, Invalidate}
+use Rattle.order.specs.declared.Command.the-variants.{Read, ModifiedRead, Invalidate, MemoryWrite}
+use Rattle.coherence.specs.declared.Slot.{Slot}
 use Rattle.coherence.specs.declared.Slot.the-variants.{Invalid, Shared, Modified}
 use Rattle.coherence.specs.declared.Directory.{Directory}
 use Rattle.coherence.specs.Bytes.{blockAt, putBlock, wordAt, putWord}
+use Rattle.coherence.specs.Settings.{through}
 use Rattle.coherence.specs.Slots.{place, slotAt, holds, modified}
-use Rattle.coherence.specs.Access.{Run, give, mark, empty, eachUnit, ask, fill, fetch, expel, claim, cachePlace, write, load, own, store, flush}
+use Rattle.coherence.specs.Access.{Run, give, mark, empty, eachUnit, ask, fill, fetch, expel, claim, cachePlace, write, load, own, writeThrough, storeThrough, store, flush}
 use Rattle.coherence.specs.Snapshot.{replaced}
-use Rattle.coherence.proofs.Cases.{eq-or-ne}
+use Rattle.coherence.proofs.Cases.{true-or-false, eq-or-ne}
 use Rattle.coherence.proofs.ByteLaws.{length-block, length-putBlock, length-putWord, block-same, block-other, word-same, word-other, word-block, word-in-block, word-elsewhere}
-use Rattle.coherence.proofs.SlotLaws.{size, slot-same, modified-is, is-modified, holds-is, modified-holds, shared-holds, holds-shared, holds-modified, holds-invalid, invalid≢modified, shared≢modified, modified-one, place-lt, place-mod, place-ne}
+use Rattle.coherence.proofs.SlotLaws.{size, slot-same, modified-is, is-modified, holds-is, modified-holds, shared-holds, holds-shared, holds-modified, holds-one, holds-invalid, invalid≢modified, shared≢modified, modified-one, place-lt, place-mod, place-unit, place-ne}
 use Rattle.coherence.proofs.Weights.{weight, debt-set}
 use Rattle.coherence.proofs.Invariant.{Beside, change}
 use Rattle.coherence.proofs.Actions.{Keeps, cost, Fewer, Good, good-none, held-place, give-keeps, give-cost, mark-cost, mark-same, mark-other, mark-keeps, drop-good, empty-good, each-good, ask-keeps}
@@ -34,7 +36,7 @@ fill-keeps : (p : Beside) (n b : ℕ) (w : Run) → n < 64 → b < 64 → b % 16
     → Keeps p (fill n b w) × (slotAt (fill n b w .directory) n ≡ Shared b)
 unfolding fill
 fill-keeps p n b w l k q f g i =
-    let s : n < size (w .directory) = rw (i .slots) l in
+    let s : n < size (w .directory) = rw (i .lawful .slots) l in
     let r : 32 * n + 32 ≤ length (w .cache) = omega (arith, i .store) in
     let x : List ℕ = blockAt (w .memory) b in
     let z : length x ≡ 32 = length-block (w .memory) b (omega (arith, i .memory)) in (
@@ -51,6 +53,7 @@ fill-keeps p n b w l k q f g i =
             kept = λ c e. refl;
             home = λ c m e d. absurd (f c e);
             under = λ c e. absurd (shared≢modified b c e);
+            kind = λ c e. absurd (shared≢modified b c e);
           }),
       slot-same (w .directory) n (Shared b) s,
     )
@@ -68,15 +71,19 @@ fetch-keeps e two p u k b w l m i =
     ask-keeps e two p u k b w₁ (g .0 .keeps) in
     let f : Keeps p (fill n b w₂) × (slotAt (fill n b w₂ .directory) n ≡ Shared b) =
     fill-keeps p n b w₂ h m (place-mod u b) (λ c z. invalid≢modified c (sym (g .1) ∙ a .2 .em n c z)) (a .3) (a .0) in
-    let s : n < size (w₂ .directory) = rw (a .0 .slots) h in
+    let s : n < size (w₂ .directory) = rw (a .0 .lawful .slots) h in
     (f .0, omega (arith, g .0 .cost, fill-cost e n b w₂ s), f .1)
 
--- ---- a block is claimed
-expel-good : (e : ℕ) (p : Beside) (u b v : ℕ) (w : Run) → v < 4 → Keeps p w → slotAt (w .directory) (place u b) ≡ Shared b
-    → Good e p w (expel u b v w) × (slotAt (expel u b v w .directory) (place u b) ≡ Shared b)
+-- ---- the other holders become I
+-- no unit has block b EM, and unit u's slot of it is x
+abbrev Clear : ℕ → ℕ → Slot → Run → Type 0
+Clear u b x w = ((n : ℕ) → slotAt (w .directory) n ≡ Modified b → ⊥) × (slotAt (w .directory) (place u b) ≡ x)
+
+expel-good : (e : ℕ) (p : Beside) (u b v : ℕ) (x : Slot) (w : Run) → v < 4 → Keeps p w → Clear u b x w
+    → Good e p w (expel u b v w) × Clear u b x (expel u b v w)
     × ((v ≡ u → ⊥) → holds (slotAt (expel u b v w .directory) (place v b)) b ≡ true → ⊥)
 unfolding expel
-expel-good e p u b v w l i z = go (eqb v u) (holds (slotAt (w .directory) (place v b)) b) refl refl
+expel-good e p u b v x w l i z = go (eqb v u) (holds (slotAt (w .directory) (place v b)) b) refl refl
   where
     n : ℕ
     n = place v b
@@ -85,34 +92,49 @@ expel-good e p u b v w l i z = go (eqb v u) (holds (slotAt (w .directory) (place
     to t = cond t (mark n Invalid w) w
 
     go : (s t : Bool) → eqb v u ≡ s → holds (slotAt (w .directory) n) b ≡ t
-        → Good e p w (to (not s && t)) × (slotAt (to (not s && t) .directory) (place u b) ≡ Shared b)
+        → Good e p w (to (not s && t)) × Clear u b x (to (not s && t))
         × ((v ≡ u → ⊥) → holds (slotAt (to (not s && t) .directory) n) b ≡ true → ⊥)
     go true t f g = (good-none i, z, λ q h. q (eqb-true v u f))
     go false false f g = (good-none i, z, λ q h. false≢true (sym g ∙ h))
-    go false true f g = (
-      drop-good e p n w (place-lt v b l)
-          (λ c y.
-          let x : c ≡ b = holds-modified c b (rw y at g) in
-          let r : place u b ≡ n = i .lone n (place u b) b (rw x at y) (shared-holds _ b z) in
-          shared≢modified b c (sym z ∙ rw r y))
-          i,
-      mark-other n (place u b) Invalid w (place-ne u v b (eqb-false v u f)) ∙ z,
-      λ q h. false≢true (sym (holds-invalid b) ∙ (rw (mark-same n Invalid w (rw (i .slots) (place-lt v b l))) at h)),
+    go false true f g =
+        let d : Good e p w (mark n Invalid w) =
+        drop-good e p n w (place-lt v b l) (λ c y. z .0 n (y ∙ ap Modified (holds-modified c b (rw y at g)))) i in (
+          d,
+          (λ j y. z .0 j (d .fewer .em j b y), mark-other n (place u b) Invalid w (place-ne u v b (eqb-false v u f)) ∙ z .1),
+          λ q h. false≢true (sym (holds-invalid b) ∙ (rw (mark-same n Invalid w (rw (i .lawful .slots) (place-lt v b l))) at h)),
+        )
+
+-- at most unit u holds block b then
+expel-all : (e : ℕ) (p : Beside) (u b : ℕ) (x : Slot) (w : Run) → Keeps p w → Clear u b x w
+    → Good e p w (eachUnit (expel u b) w) × Clear u b x (eachUnit (expel u b) w)
+    × ((n : ℕ) → (n ≡ place u b → ⊥) → holds (slotAt (eachUnit (expel u b) w .directory) n) b ≡ true → ⊥)
+expel-all e p u b x w i z =
+    let w₁ : Run = eachUnit (expel u b) w in
+    let g : Good e p w w₁ × Clear u b x w₁ × ((v : ℕ) → v < 4 → (v ≡ u → ⊥) → holds (slotAt (w₁ .directory) (place v b)) b ≡ true → ⊥) =
+    each-good e p (expel u b) (Clear u b x) (λ v d. (v ≡ u → ⊥) → holds (slotAt d (place v b)) b ≡ true → ⊥)
+    (λ v y m j f. expel-good e p u b v x y m j f)
+    (λ v d d′ f y q t. y q (f .held (place v b) b t))
+    w i z in (
+      g .0,
+      g .1,
+      λ n d t.
+          let r : (n / 16 < 4) × (n ≡ place (n / 16) b) = held-place p (w₁ .directory) (w₁ .memory) (w₁ .cache) n b (g .0 .keeps) t in
+          g .2 (n / 16) (r .0) (λ v. d (r .1 ∙ ap (λ (m : ℕ). place m b) v)) (rw (r .1) at t),
     )
+
+-- ---- a block is claimed
 
 -- block b is taken: what it was is what the plain memory has
 unfoldable pub takeOver : Beside → ℕ → Beside
-takeOver p b = record { plain = p .plain; taken = replaced (p .taken) b (blockAt (p .plain) b) }
+takeOver p b = record { plain = p .plain; taken = replaced (p .taken) b (blockAt (p .plain) b); settings = p .settings }
 
 takeOver-keeps : (p : Beside) (b : ℕ) (w : Run) → ((n : ℕ) → slotAt (w .directory) n ≡ Modified b → ⊥) → Keeps p w → Keeps (takeOver p b) w
 unfolding takeOver replaced
 takeOver-keeps p b w f i =
     record {
-      slots = i .slots;
+      lawful = i .lawful;
       memory = i .memory;
       store = i .store;
-      placed = i .placed;
-      lone = i .lone;
       copy = i .copy;
       home = i .home;
       under = λ n c e. rw (ne-eqb c b (λ z. f n (rw z at e))) (i .under n c e);
@@ -122,25 +144,25 @@ takeOver-taken : (p : Beside) (b : ℕ) → takeOver p b .taken b ≡ blockAt (p
 unfolding takeOver replaced
 takeOver-taken p b = rw (eq-eqb b b refl)
 
-pub claim-keeps : (e : ℕ) (p : Beside) (u b : ℕ) (w : Run) → u < 4 → slotAt (w .directory) (place u b) ≡ Shared b → Keeps p w
+takeOver-settings : (p : Beside) (b : ℕ) → takeOver p b .settings ≡ p .settings
+unfolding takeOver
+takeOver-settings p b = refl
+
+pub claim-keeps : (e : ℕ) (p : Beside) (u b : ℕ) (w : Run) → u < 4 → through (p .settings) u ≡ false → slotAt (w .directory) (place u b) ≡ Shared b → Keeps p w
     → Keeps (takeOver p b) (claim u b w) × (cost e (claim u b w) ≤ cost e w + e) × (slotAt (claim u b w .directory) (place u b) ≡ Modified b)
 unfolding claim
-claim-keeps e p u b w l f i =
+claim-keeps e p u b w l o f i =
     let n : ℕ = place u b in
     let h : n < 64 = place-lt u b l in
     let w₁ : Run = eachUnit (expel u b) w in
-    let g : Good e p w w₁ × (slotAt (w₁ .directory) n ≡ Shared b)
-    × ((v : ℕ) → v < 4 → (v ≡ u → ⊥) → holds (slotAt (w₁ .directory) (place v b)) b ≡ true → ⊥) =
-    each-good e p (expel u b) (λ x. slotAt (x .directory) n ≡ Shared b) (λ v d. (v ≡ u → ⊥) → holds (slotAt d (place v b)) b ≡ true → ⊥)
-    (λ v x m j y. expel-good e p u b v x m j y)
-    (λ v d d′ y z q t. z q (y .held (place v b) b t))
-    w i f in
+    let none : (k : ℕ) → slotAt (w .directory) k ≡ Modified b → ⊥ =
+    λ k z. shared≢modified b b (sym f ∙ ap (slotAt (w .directory)) (i .lawful .lone k n b z (shared-holds _ b f)) ∙ z) in
+    let g : Good e p w w₁ × Clear u b (Shared b) w₁ × ((k : ℕ) → (k ≡ n → ⊥) → holds (slotAt (w₁ .directory) k) b ≡ true → ⊥) =
+    expel-all e p u b (Shared b) w i (none, f) in
     let i₁ : Keeps p w₁ = g .0 .keeps in
-    let t : holds (slotAt (w₁ .directory) n) b ≡ true = shared-holds _ b (g .1) in
-    let none : (k : ℕ) → slotAt (w₁ .directory) k ≡ Modified b → ⊥ =
-    λ k z. shared≢modified b b (sym (g .1) ∙ ap (slotAt (w₁ .directory)) (i₁ .lone k n b z t) ∙ z) in
-    let j : Keeps (takeOver p b) w₁ = takeOver-keeps p b w₁ none i₁ in
-    let s : n < size (w₁ .directory) = rw (j .slots) h in
+    let t : holds (slotAt (w₁ .directory) n) b ≡ true = shared-holds _ b (g .1 .1) in
+    let j : Keeps (takeOver p b) w₁ = takeOver-keeps p b w₁ (g .1 .0) i₁ in
+    let s : n < size (w₁ .directory) = rw (j .lawful .slots) h in
     let c : cost e (mark n (Modified b) w₁) + weight e (slotAt (w₁ .directory) n) ≡ cost e w₁ + e = mark-cost e n (Modified b) w₁ s in (
       mark-keeps (takeOver p b) n (Modified b) w₁ j
           (record {
@@ -148,18 +170,16 @@ claim-keeps e p u b w l f i =
             memory = j .memory;
             store = j .store;
             others = λ k d. refl;
-            fits = λ a z. rw (← holds-modified b a z) (j .placed n b t .1, j .placed n b t .2);
+            fits = λ a z. rw (← holds-modified b a z) (j .lawful .placed n b t .1, j .lawful .placed n b t .2);
             copy = λ a z. rw (← holds-modified b a z) (j .copy n b t);
-            taken = λ a k d z y.
-                let x : holds (slotAt (w₁ .directory) k) b ≡ true = rw (sym (modified-one (Modified b) b a refl z)) at y in
-                let r : (k / 16 < 4) × (k ≡ place (k / 16) b) = held-place p (w₁ .directory) (w₁ .memory) (w₁ .cache) k b i₁ x in
-                g .2 (k / 16) (r .0) (λ v. d (r .1 ∙ ap (λ (m : ℕ). place m b) v)) (rw (r .1) at x);
-            owned = λ a k d z y. d (sym (j .lone k n b (rw (sym (holds-modified b a z)) at y) t));
+            taken = λ a k d z y. g .2 k d (rw (sym (modified-one (Modified b) b a refl z)) at y);
+            owned = λ a k d z y. d (sym (j .lawful .lone k n b (rw (sym (holds-modified b a z)) at y) t));
             kept = λ a z. refl;
-            home = λ a m z d. absurd (shared≢modified b a (sym (g .1) ∙ z));
+            home = λ a m z d. absurd (shared≢modified b a (sym (g .1 .1) ∙ z));
             under = λ a z.
                 rw (← modified-one (Modified b) b a refl z)
-                (i₁ .home b (i₁ .placed n b t .1) none ∙ sym (takeOver-taken p b));
+                (i₁ .home b (i₁ .lawful .placed n b t .1) (g .1 .0) ∙ sym (takeOver-taken p b));
+            kind = λ a z. rw (takeOver-settings p b, place-unit u b) o;
           }),
       omega (arith, g .0 .cost),
       mark-same n (Modified b) w₁ s,
@@ -180,7 +200,7 @@ word-held p u a w h i t =
 
 -- the plain memory with a word put, its taken blocks as they were
 unfoldable pub written : Beside → ℕ → ℕ → Beside
-written p a v = record { plain = putWord (p .plain) a v; taken = p .taken }
+written p a v = record { plain = putWord (p .plain) a v; taken = p .taken; settings = p .settings }
 
 write-keeps : (p : Beside) (u a v : ℕ) (w : Run) → a % 4 ≡ 0 → slotAt (w .directory) (place u (a / 32)) ≡ Modified (a / 32) → Keeps p w
     → Keeps (written p a v) (write u a v w)
@@ -189,11 +209,9 @@ write-keeps p u a v w h e i =
     let k : ℕ = place u (a / 32) in
     let t : holds (slotAt (w .directory) k) (a / 32) ≡ true = modified-holds _ (a / 32) e in
     record {
-      slots = i .slots;
+      lawful = i .lawful;
       memory = i .memory;
       store = length-putWord (w .cache) (32 * k + a % 32) v ∙ i .store;
-      placed = i .placed;
-      lone = i .lone;
       copy = λ n b g. ⊎-elim
           (λ (q : n ≡ k).
           let r : a / 32 ≡ b = holds-modified (a / 32) b (rw (q, e) at g) in
@@ -204,11 +222,66 @@ write-keeps p u a v w h e i =
           (λ q.
           word-other (w .cache) k n (a % 32) v (offset a h) q
           ∙ i .copy n b g
-          ∙ sym (word-elsewhere (p .plain) a v h .1 b (λ r. q (i .lone k n (a / 32) e (rw r at g)))))
+          ∙ sym (word-elsewhere (p .plain) a v h .1 b (λ r. q (i .lawful .lone k n (a / 32) e (rw r at g)))))
           (eq-or-ne n k);
       home = λ b l f. i .home b l f ∙ sym (word-elsewhere (p .plain) a v h .1 b (λ r. f k (rw r e)));
       under = i .under;
     }
+
+-- a word goes to memory, and to unit u's copy if u holds its block. No unit has the block EM, and no other unit holds it
+writeThrough-keeps : (p : Beside) (u a v : ℕ) (w : Run) → a % 4 ≡ 0 → a ≤ 2044
+    → ((n : ℕ) → slotAt (w .directory) n ≡ Modified (a / 32) → ⊥)
+    → ((n : ℕ) → (n ≡ place u (a / 32) → ⊥) → holds (slotAt (w .directory) n) (a / 32) ≡ true → ⊥)
+    → Keeps p w → Keeps (written p a v) (writeThrough u a v w)
+unfolding writeThrough write cachePlace written
+writeThrough-keeps p u a v w h m none only i =
+    record {
+      lawful = i .lawful;
+      memory = length-putWord (w .memory) a v ∙ i .memory;
+      store = size-of (holds (slotAt (w .directory) k) b);
+      copy = λ n c g. ⊎-elim
+          (λ (q : c ≡ b).
+          let y : holds (slotAt (w .directory) n) b ≡ true = rw q at g in
+          let r : n ≡ k = ⊎-elim (λ z. z) (λ z. absurd (only n z y)) (eq-or-ne n k) in
+          rw (r, q) (held (rw r at y)))
+          (λ q. other n c q g (holds (slotAt (w .directory) k) b) refl ∙ i .copy n c g ∙ sym (word-elsewhere (p .plain) a v h .1 c q))
+          (eq-or-ne c b);
+      home = λ c l f. ⊎-elim
+          (λ q.
+          rw q
+          (word-elsewhere (w .memory) a v h .0
+          ∙ ap (λ (x : List ℕ). putWord x (a % 32) v) (i .home b (omega arith) none)
+          ∙ sym (word-elsewhere (p .plain) a v h .0)))
+          (λ q. word-elsewhere (w .memory) a v h .1 c q ∙ i .home c l f ∙ sym (word-elsewhere (p .plain) a v h .1 c q))
+          (eq-or-ne c b);
+      under = λ n c z. word-elsewhere (w .memory) a v h .1 c (λ q. none n (rw q at z)) ∙ i .under n c z;
+    }
+  where
+    b : ℕ
+    b = a / 32
+
+    k : ℕ
+    k = place u b
+
+    to : Bool → List ℕ
+    to t = cond t (putWord (w .cache) (32 * k + a % 32) v) (w .cache)
+
+    size-of : (t : Bool) → length (to t) ≡ 2048
+    size-of true = length-putWord (w .cache) (32 * k + a % 32) v ∙ i .store
+    size-of false = i .store
+
+    held : holds (slotAt (w .directory) k) b ≡ true → blockAt (to (holds (slotAt (w .directory) k) b)) k ≡ blockAt (putWord (p .plain) a v) b
+    held t =
+        ap (λ (x : Bool). blockAt (to x) k) t
+        ∙ word-same (w .cache) k (a % 32) v (offset a h)
+        ∙ ap (λ (x : List ℕ). putWord x (a % 32) v) (i .copy k b t)
+        ∙ sym (word-elsewhere (p .plain) a v h .0)
+
+    other : (n c : ℕ) → (c ≡ b → ⊥) → holds (slotAt (w .directory) n) c ≡ true → (t : Bool) → holds (slotAt (w .directory) k) b ≡ t
+        → blockAt (to t) n ≡ blockAt (w .cache) n
+    other n c q g false z = refl
+    other n c q g true z =
+        word-other (w .cache) k n (a % 32) v (offset a h) (λ r. q (holds-one (slotAt (w .directory) k) c b (rw r at g) z))
 
 -- ---- the accesses
 pub load-keeps : (e : ℕ) → 2 ≤ e → (p : Beside) (u a : ℕ) (w : Run) → u < 4 → a % 4 ≡ 0 → a ≤ 2044 → Keeps p w
@@ -227,11 +300,11 @@ load-keeps e two p u a w l h m i = go (holds (slotAt (w .directory) (place u (a 
         fetch-keeps e two p u Read (a / 32) w l (omega arith) i in
         (g .0, g .1, word-held p u a f h (g .0) (shared-holds _ (a / 32) (g .2)))
 
-own-keeps : (e : ℕ) → 2 ≤ e → (p : Beside) (u b : ℕ) (w : Run) → u < 4 → b < 64 → Keeps p w
+own-keeps : (e : ℕ) → 2 ≤ e → (p : Beside) (u b : ℕ) (w : Run) → u < 4 → b < 64 → through (p .settings) u ≡ false → Keeps p w
     → Keeps (cond (modified (slotAt (w .directory) (place u b)) b) p (takeOver p b)) (own u b w)
     × (cost e (own u b w) ≤ cost e w + (1 + e)) × (slotAt (own u b w .directory) (place u b) ≡ Modified b)
 unfolding own give
-own-keeps e two p u b w l m i = go (modified (slotAt (w .directory) n) b) (holds (slotAt (w .directory) n) b) refl refl
+own-keeps e two p u b w l m o i = go (modified (slotAt (w .directory) n) b) (holds (slotAt (w .directory) n) b) refl refl
   where
     n : ℕ
     n = place u b
@@ -250,13 +323,44 @@ own-keeps e two p u b w l m i = go (modified (slotAt (w .directory) n) b) (holds
     go false true y f =
         let s : slotAt (w .directory) n ≡ Shared b = ⊎-elim (λ q. q) (λ q. absurd (false≢true (sym y ∙ is-modified _ b q))) (holds-is _ b f) in
         let g : Keeps (takeOver p b) (claim u b w₁) × (cost e (claim u b w₁) ≤ cost e w₁ + e) × (slotAt (claim u b w₁ .directory) n ≡ Modified b) =
-        claim-keeps e p u b w₁ l s (give-keeps p u Invalidate b false w i) in
+        claim-keeps e p u b w₁ l o s (give-keeps p u Invalidate b false w i) in
         (g .0, omega (arith, g .1, give-cost e u Invalidate b false w), g .2)
     go false false y f =
         let h : Keeps p w₂ × (cost e w₂ ≤ cost e w + 1) × (slotAt (w₂ .directory) n ≡ Shared b) = fetch-keeps e two p u ModifiedRead b w l m i in
         let g : Keeps (takeOver p b) (claim u b w₂) × (cost e (claim u b w₂) ≤ cost e w₂ + e) × (slotAt (claim u b w₂ .directory) n ≡ Modified b) =
-        claim-keeps e p u b w₂ l (h .2) (h .0) in
+        claim-keeps e p u b w₂ l o (h .2) (h .0) in
         (g .0, omega arith, g .2)
+
+-- "A write-through unit is only I or SU"
+through-not-em : (p : Beside) (u b : ℕ) (w : Run) → through (p .settings) u ≡ true → Keeps p w → modified (slotAt (w .directory) (place u b)) b ≡ false
+through-not-em p u b w o i = ⊎-elim
+    (λ t. absurd (false≢true (sym (rw (place-unit u b) at (i .lawful .kinds (place u b) b (modified-is _ b t))) ∙ o)))
+    (λ t. t)
+    (true-or-false (modified (slotAt (w .directory) (place u b)) b))
+
+write-cost : (e u a v : ℕ) (w : Run) → cost e (write u a v w) ≡ cost e w
+unfolding write cost
+write-cost e u a v w = refl
+
+writeThrough-cost : (e u a v : ℕ) (w : Run) → cost e (writeThrough u a v w) ≡ cost e w
+unfolding writeThrough cost
+writeThrough-cost e u a v w = refl
+
+storeThrough-keeps : (e : ℕ) → 2 ≤ e → (p : Beside) (u a v : ℕ) (w : Run) → a % 4 ≡ 0 → a ≤ 2044 → Keeps p w
+    → Keeps (written (takeOver p (a / 32)) a v) (storeThrough u a v w) × (cost e (storeThrough u a v w) ≤ cost e w + (1 + e))
+unfolding storeThrough
+storeThrough-keeps e two p u a v w h m i =
+    let b : ℕ = a / 32 in
+    let w₁ : Run = ask u MemoryWrite b w in
+    let w₂ : Run = eachUnit (expel u b) w₁ in
+    let q : Keeps p w₁ × (cost e w₁ ≤ cost e w + 1) × Fewer (w .directory) (w₁ .directory) × ((n : ℕ) → slotAt (w₁ .directory) n ≡ Modified b → ⊥) =
+    ask-keeps e two p u MemoryWrite b w i in
+    let x : Slot = slotAt (w₁ .directory) (place u b) in
+    let r : Good e p w₁ w₂ × Clear u b x w₂ × ((n : ℕ) → (n ≡ place u b → ⊥) → holds (slotAt (w₂ .directory) n) b ≡ true → ⊥) =
+    expel-all e p u b x w₁ (q .0) (q .3, refl) in (
+      writeThrough-keeps (takeOver p b) u a v w₂ h m (r .1 .0) (r .2) (takeOver-keeps p b w₂ (r .1 .0) (r .0 .keeps)),
+      omega (arith, writeThrough-cost e u a v w₂, r .0 .cost, q .1),
+    )
 
 -- a store by unit u into block b, in the directory d
 unfoldable pub storing : Directory → ℕ → ℕ → Beside → Beside
@@ -264,10 +368,28 @@ storing d u b p = cond (modified (slotAt d (place u b)) b) p (takeOver p b)
 
 pub store-keeps : (e : ℕ) → 2 ≤ e → (p : Beside) (u a v : ℕ) (w : Run) → u < 4 → a % 4 ≡ 0 → a ≤ 2044 → Keeps p w
     → Keeps (written (storing (w .directory) u (a / 32) p) a v) (store u a v w) × (cost e (store u a v w) ≤ cost e w + (1 + e))
-unfolding store write cost storing
-store-keeps e two p u a v w l h m i =
-    let g = own-keeps e two p u (a / 32) w l (omega arith) i in
-    (write-keeps _ u a v (own u (a / 32) w) h (g .2) (g .0), g .1)
+unfolding store storing
+store-keeps e two p u a v w l h m i = go (through (w .directory .settings) u) refl
+  where
+    b : ℕ
+    b = a / 32
+
+    p′ : Beside
+    p′ = cond (modified (slotAt (w .directory) (place u b)) b) p (takeOver p b)
+
+    w₁ : Run
+    w₁ = write u a v (own u b w)
+
+    w₂ : Run
+    w₂ = storeThrough u a v w
+
+    go : (t : Bool) → through (w .directory .settings) u ≡ t → Keeps (written p′ a v) (cond t w₂ w₁) × (cost e (cond t w₂ w₁) ≤ cost e w + (1 + e))
+    go true z =
+        let f : modified (slotAt (w .directory) (place u b)) b ≡ false = through-not-em p u b w (rw (i .lawful .chosen) at z) i in
+        rw f (storeThrough-keeps e two p u a v w h m i)
+    go false z =
+        let g = own-keeps e two p u b w l (omega arith) (rw (i .lawful .chosen) at z) i in
+        (write-keeps p′ u a v (own u b w) h (g .2) (g .0), omega (arith, write-cost e u a v (own u b w), g .1))
 
 pub flush-keeps : (e : ℕ) → 2 ≤ e → (p : Beside) (u b : ℕ) (w : Run) → u < 4 → Keeps p w
     → Keeps p (flush u b w) × (cost e (flush u b w) ≤ cost e w)

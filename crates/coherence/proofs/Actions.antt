@@ -107,7 +107,7 @@ mark-fewer n x w l f g =
 pub drop-good : (e : ℕ) (p : Beside) (n : ℕ) (w : Run) → n < 64 → ((b : ℕ) → slotAt (w .directory) n ≡ Modified b → ⊥) → Keeps p w
     → Good e p w (mark n Invalid w)
 drop-good e p n w l f i =
-    let s : n < size (w .directory) = rw (i .slots) l in
+    let s : n < size (w .directory) = rw (i .lawful .slots) l in
     record {
       keeps =
           mark-keeps p n Invalid w i
@@ -123,6 +123,7 @@ drop-good e p n w l f i =
             kept = λ b z. refl;
             home = λ b k z q. absurd (f b z);
             under = λ b z. absurd (invalid≢modified b z);
+            kind = λ b z. absurd (invalid≢modified b z);
           });
       cost = omega (arith, mark-cost e n Invalid w s);
       fewer = mark-fewer n Invalid w s (λ b z. absurd (invalid≢modified b z)) (λ b t. absurd (not-invalid b t));
@@ -133,7 +134,7 @@ copyback-keeps : (p : Beside) (u n b : ℕ) (w : Run) → slotAt (w .directory) 
 unfolding copyback mark writeBack give
 copyback-keeps p u n b w e i =
     let t : holds (slotAt (w .directory) n) b ≡ true = modified-holds (slotAt (w .directory) n) b e in
-    let q : (n < 64) × (b < 64) × (b % 16 ≡ n % 16) = i .placed n b t in
+    let q : (n < 64) × (b < 64) × (b % 16 ≡ n % 16) = i .lawful .placed n b t in
     let x : List ℕ = blockAt (w .cache) n in
     let r : 32 * b + 32 ≤ length (w .memory) = omega (arith, i .memory) in
     let k : length x ≡ 32 = length-block (w .cache) n (omega (arith, i .store)) in
@@ -146,10 +147,11 @@ copyback-keeps p u n b w e i =
       fits = λ c z. rw (← holds-shared b c z) (q .1, q .2);
       copy = λ c z. rw (← holds-shared b c z) (i .copy n b t);
       taken = λ c j z f g. shared≢modified b c f;
-      owned = λ c j z f g. z (sym (i .lone j n c g (rw (holds-shared b c f) at t)));
+      owned = λ c j z f g. z (sym (i .lawful .lone j n c g (rw (holds-shared b c f) at t)));
       kept = λ c f. block-other (w .memory) b c x r k (λ z. f (rw z e));
       home = λ c l f g. rw (← modified-one (slotAt (w .directory) n) b c e f) (block-same (w .memory) b x r k ∙ i .copy n b t);
       under = λ c z. absurd (shared≢modified b c z);
+      kind = λ c z. absurd (shared≢modified b c z);
     })
 
 writeBack-cost : (e n b : ℕ) (w : Run) → cost e (writeBack n b w) ≡ cost e w
@@ -163,7 +165,7 @@ copyback-good e one p u n b w f i =
     let w₁ : Run = give u Copyback b false w in
     let w₂ : Run = writeBack n b w₁ in
     let t : holds (slotAt (w .directory) n) b ≡ true = modified-holds (slotAt (w .directory) n) b f in
-    let s : n < size (w .directory) = rw (i .slots) (i .placed n b t .0) in
+    let s : n < size (w .directory) = rw (i .lawful .slots) (i .lawful .placed n b t .0) in
     let c₁ : cost e w₁ ≡ cost e w + 1 = give-cost e u Copyback b false w in
     let c₂ : cost e w₂ ≡ cost e w₁ = writeBack-cost e n b w₁ in
     let c₃ : cost e (mark n (Shared b) w₂) + weight e (slotAt (w .directory) n) ≡ cost e w₂ + 0 = mark-cost e n (Shared b) w₂ s in
@@ -185,12 +187,12 @@ empty-good e one p u n w l i = go (slotAt (w .directory) n) refl
   where
     go : (x : Slot) → slotAt (w .directory) n ≡ x → Good e p w (emptied u n x w) × (slotAt (emptied u n x w .directory) n ≡ Invalid)
     go Invalid f = (good-none i, f)
-    go (Shared b) f = (drop-good e p n w l (λ c z. shared≢modified b c (sym f ∙ z)) i, mark-same n Invalid w (rw (i .slots) l))
+    go (Shared b) f = (drop-good e p n w l (λ c z. shared≢modified b c (sym f ∙ z)) i, mark-same n Invalid w (rw (i .lawful .slots) l))
     go (Modified b) f =
         let g : Good e p w (copyback u n b w) × (cost e (copyback u n b w) + e ≡ cost e w + 1) × (slotAt (copyback u n b w .directory) n ≡ Shared b) =
         copyback-good e one p u n b w f i in (
           good-then (g .0) (drop-good e p n (copyback u n b w) l (λ c z. shared≢modified b c (sym (g .2) ∙ z)) (g .0 .keeps)),
-          mark-same n Invalid (copyback u n b w) (rw (g .0 .keeps .slots) l),
+          mark-same n Invalid (copyback u n b w) (rw (g .0 .keeps .lawful .slots) l),
         )
 
 -- ---- each unit in turn
@@ -221,7 +223,7 @@ each-good e p f Pre Done one stay w i q =
 -- a held block is at one of its four places
 pub held-place : (p : Beside) (d : Directory) (m c : List ℕ) (n b : ℕ) → Inv p d m c → holds (slotAt d n) b ≡ true
     → (n / 16 < 4) × (n ≡ place (n / 16) b)
-held-place p d m c n b i t = let q : (n < 64) × (b < 64) × (b % 16 ≡ n % 16) = i .placed n b t in place-of n b (q .0) (q .2)
+held-place p d m c n b i t = let q : (n < 64) × (b < 64) × (b % 16 ≡ n % 16) = i .lawful .placed n b t in place-of n b (q .0) (q .2)
 
 -- a block that is EM in none of its four places is EM nowhere
 pub none-em : (p : Beside) (d : Directory) (m c : List ℕ) (b : ℕ) → Inv p d m c → ((v : ℕ) → v < 4 → slotAt d (place v b) ≡ Modified b → ⊥)
@@ -257,7 +259,7 @@ yield-good e two p u k b w i = ⊎-elim owned free (owner-cases (w .directory) b
         rw (lt-ltb v 4 (h .0)) (
           record { keeps = g .0 .keeps; cost = omega arith; fewer = g .0 .fewer },
           λ n z.
-              let q : n ≡ place v b = i .lone (place v b) n b (h .1) (modified-holds _ b (g .0 .fewer .em n b z)) in
+              let q : n ≡ place v b = i .lawful .lone (place v b) n b (h .1) (modified-holds _ b (g .0 .fewer .em n b z)) in
               shared≢modified b b (sym (g .2) ∙ ap (slotAt (w₂ .directory)) (sym q) ∙ z),
         )
 

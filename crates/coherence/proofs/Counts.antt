@@ -11,9 +11,10 @@ use Rattle.coherence.specs.declared.Slot.{Slot}
 use Rattle.coherence.specs.declared.Slot.the-variants.{Invalid, Shared, Modified}
 use Rattle.order.specs.declared.Order.{Order}
 use Rattle.order.specs.declared.Command.{Command}
-use Rattle.order.specs.declared.Command.the-variants.{Read, ModifiedRead, Invalidate, Copyback}
+use Rattle.order.specs.declared.Command.the-variants.{Read, ModifiedRead, Invalidate, Copyback, MemoryWrite}
+use Rattle.coherence.specs.Settings.{through}
 use Rattle.coherence.specs.Slots.{place, slotAt, holds, modified, ownerOf}
-use Rattle.coherence.specs.Access.{Run, ready, give, mark, writeBack, copyback, emptied, empty, eachUnit, yield, ask, fill, fetch, expel, claim, write, load, own, store, flush}
+use Rattle.coherence.specs.Access.{Run, ready, give, mark, writeBack, copyback, emptied, empty, eachUnit, yield, ask, fill, fetch, expel, claim, write, load, own, writeThrough, storeThrough, store, flush}
 use Rattle.coherence.specs.declared.Directory.{Directory}
 use Rattle.coherence.specs.declared.Call.{Call}
 use Rattle.coherence.specs.declared.Call.the-variants.{Load, Store, Flush}
@@ -66,9 +67,13 @@ expel-given u b v w = go (not (eqb v u) && holds (slotAt (w .directory) (place v
     go true = refl
     go false = refl
 
+expel-all-given : (u b : ℕ) (w : Run) → given (eachUnit (expel u b) w) ≡ given w
+unfolding eachUnit
+expel-all-given u b w = expel-given u b 3 _ ∙ expel-given u b 2 _ ∙ expel-given u b 1 _ ∙ expel-given u b 0 w
+
 pub claim-given : (u b : ℕ) (w : Run) → given (claim u b w) ≡ given w
-unfolding claim mark eachUnit
-claim-given u b w = expel-given u b 3 _ ∙ expel-given u b 2 _ ∙ expel-given u b 1 _ ∙ expel-given u b 0 w
+unfolding claim mark
+claim-given u b w = expel-all-given u b w
 
 pub own-given : (u b : ℕ) (w : Run) → given (own u b w) ≤ given w + 4
 unfolding own
@@ -84,6 +89,17 @@ own-given u b w = go (modified (slotAt (w .directory) (place u b)) b) (holds (sl
     go true t = omega arith
     go false true = omega (arith, claim-given u b w₁, give-given u Invalidate b false w)
     go false false = omega (arith, claim-given u b w₂, fetch-given u ModifiedRead b w)
+
+pub store-given : (u a v : ℕ) (w : Run) → given (store u a v w) ≤ given w + 4
+unfolding store storeThrough writeThrough write
+store-given u a v w = go (through (w .directory .settings) u)
+  where
+    w₁ : Run
+    w₁ = ask u MemoryWrite (a / 32) w
+
+    go : (t : Bool) → given (cond t (writeThrough u a v (eachUnit (expel u (a / 32)) w₁)) (write u a v (own u (a / 32) w))) ≤ given w + 4
+    go true = omega (arith, expel-all-given u (a / 32) w₁, ask-given u MemoryWrite (a / 32) w)
+    go false = own-given u (a / 32) w
 
 pub load-given : (u a : ℕ) (w : Run) → given (load u a w) ≤ given w + 4
 unfolding load
@@ -103,9 +119,9 @@ flush-given u b w = go (holds (slotAt (w .directory) (place u b)) b)
 
 -- ---- a call's orders
 pub act-given : (c : Call) (w : Run) → given (act c w) ≤ given w + 4
-unfolding act store write
+unfolding act
 act-given (Load u a) w = load-given u a w
-act-given (Store u a v) w = own-given u (a / 32) w
+act-given (Store u a v) w = store-given u a v w
 act-given (Flush u b) w = omega (arith, flush-given u b w)
 
 ready-given : (d : Directory) (m k : List ℕ) → given (ready d m k) ≡ 0

@@ -1,8 +1,9 @@
 -- Document 01's values, computed from the definitions.
 use mathlib.Core.Path.{refl}
 use Rattle.coherence.specs.Bytes.{blockAt, putBlock, wordAt, putWord}
-use Rattle.coherence.specs.Slots.{place, slotAt, setSlot, stateNumber, holds, modified, ownerOf, allBelow, fits, alone, slotRule, sound, coldDirectory}
-use Rattle.coherence.specs.Access.{ready, give, mark, writeBack, copyback, emptied, empty, yield, ask, fill, fetch, eachUnit, expel, claim, cachePlace, write, load, own, store, flush}
+use Rattle.coherence.specs.Settings.{isThrough, through, drillSettings}
+use Rattle.coherence.specs.Slots.{place, slotAt, setSlot, stateNumber, holds, modified, ownerOf, allBelow, fits, alone, slotRule, kindRule, soundSlots, soundKinds, sound, coldDirectory}
+use Rattle.coherence.specs.Access.{ready, give, mark, writeBack, copyback, emptied, empty, yield, ask, fill, fetch, eachUnit, expel, claim, cachePlace, write, load, own, writeThrough, storeThrough, store, flush}
 use Rattle.order.specs.Refusal.{firstRefusal}
 use Rattle.coherence.specs.Refusal.{sized, isUnit, isAddress, isBlock, sizeTest, directoryTest, unitTest, targetTest, callRefusal, startRefusal, peekRefusal}
 use Rattle.coherence.specs.Calls.{unitOf, isTarget, refusal, act, loaded, after, valueOf, packed, answer, memoryAfter, cacheAfter, answers, afterAll, answersCold, afterCold}
@@ -10,12 +11,14 @@ use Rattle.coherence.specs.Peek.{fromCache, newestBlock, newest, peeked}
 use Rattle.coherence.specs.PlainMemory.{plainAccepts, plainPut, plainAfter}
 use Rattle.coherence.specs.Snapshot.{replaced, takenBy, takenAfter, takenAfterAll}
 use Rattle.coherence.specs.Demand3.{ordersIn, ordersGiven, isLoad, isStore, acceptedOf, loads, stores}
-use Rattle.coherence.specs.Examples.{zeros, drillCalls, valueAndOrders, conflict, edgeCalls, peekAfter, takenCold, Examples}
+use Rattle.coherence.specs.AccessRows.{mixedSettings}
+use Rattle.coherence.specs.Examples.{zeros, drillCalls, valueAndOrders, conflict, mixedCalls, edgeCalls, peekAfter, takenCold, Examples}
 
 pub examples : Examples
 unfolding
-    blockAt putBlock wordAt putWord place slotAt setSlot stateNumber holds modified ownerOf allBelow fits alone slotRule sound coldDirectory
-    ready give mark writeBack copyback emptied empty yield ask fill fetch eachUnit expel claim cachePlace write load own store flush
+    blockAt putBlock wordAt putWord place slotAt setSlot stateNumber holds modified ownerOf allBelow fits alone slotRule kindRule soundSlots soundKinds sound coldDirectory
+    ready give mark writeBack copyback emptied empty yield ask fill fetch eachUnit expel claim cachePlace write load own
+    writeThrough storeThrough store flush isThrough through drillSettings mixedSettings mixedCalls
     firstRefusal sized isUnit isAddress isBlock sizeTest directoryTest unitTest targetTest callRefusal startRefusal peekRefusal
     unitOf isTarget refusal act loaded after valueOf packed answer memoryAfter cacheAfter answers afterAll answersCold afterCold
     fromCache newestBlock newest peeked plainPut plainAfter replaced takenBy takenAfter takenAfterAll peekAfter takenCold
@@ -29,5 +32,6 @@ examples =
       invalidations = record { lines = refl; flush = refl };
       directories =
           record { bothShared = refl; modifiedAndShared = refl; otherBlock = refl; wrongSlot = refl; lastBlock = refl; noBlock = refl; numbers = refl };
+      mixedBoards = record { lines = refl; modified = refl; shared = refl; other = refl };
       boundaries = record { calls = refl; plain = refl; peeks = refl; starts = refl };
     }

@@ -1,30 +1,40 @@
--- What the machine keeps, beside a plain memory: the rules of the directory; each held copy is the plain memory's block; a block that no unit has EM
--- is the plain memory's in memory; and under a block that a unit has EM, memory has what the plain memory had when that unit took it.
+-- What the machine keeps, beside a plain memory: the rules of the directory and its settings; each held copy is the plain memory's block; a block
+-- that no unit has EM is the plain memory's in memory; and under a block that a unit has EM, memory has what the plain memory had when that unit took
+-- it.
 use mathlib.Core.Path.{_≡_, sym, _∙_}
 use mathlib.Core.List.{List}
 use mathlib.Core.Bool.{true, false, false≢true}
 use mathlib.Core.Logic.{_⊎_, inl, inr, ⊎-elim}
-use Prim.Native.Nat.{ℕ, _%_, _<_}
+use Prim.Native.Nat.{ℕ, _/_, _%_, _<_}
 use lib.ListN.{length}
 use Rattle.coherence.specs.declared.Slot.{Slot}
 use Rattle.coherence.specs.declared.Slot.the-variants.{Modified}
+use Rattle.coherence.specs.declared.Settings.{Settings}
 use Rattle.coherence.specs.declared.Directory.{Directory}
 use Rattle.coherence.specs.Bytes.{blockAt}
+use Rattle.coherence.specs.Settings.{through}
 use Rattle.coherence.specs.Slots.{slotAt, setSlot, holds, modified}
 use Rattle.coherence.proofs.Cases.{eq-or-ne, true-or-false}
-use Rattle.coherence.proofs.SlotLaws.{size, size-set, slot-same, slot-other, modified-is, is-modified, modified-holds}
+use Rattle.coherence.proofs.SlotLaws.{size, size-set, slot-same, slot-other, set-settings, modified-is, is-modified, modified-holds}
 
--- the plain memory as it stands, and each block of it as it stood when it was last taken
+-- the plain memory as it stands, each block of it as it stood when it was last taken, and the settings that were chosen
 pub record Beside : Type 0 where
   pub plain : List ℕ
   pub taken : ℕ → List ℕ
+  pub settings : Settings
 
-pub record Inv (p : Beside) (d : Directory) (m c : List ℕ) : Type 0 where
+-- of the directory alone, with the settings g
+pub record Lawful (g : Settings) (d : Directory) : Type 0 where
+  pub chosen : d .settings ≡ g
   pub slots : size d ≡ 64
-  pub memory : length m ≡ 2048
-  pub store : length c ≡ 2048
   pub placed : (n b : ℕ) → holds (slotAt d n) b ≡ true → (n < 64) × (b < 64) × (b % 16 ≡ n % 16)
   pub lone : (n j b : ℕ) → slotAt d n ≡ Modified b → holds (slotAt d j) b ≡ true → j ≡ n
+  pub kinds : (n b : ℕ) → slotAt d n ≡ Modified b → through g (n / 16) ≡ false
+
+pub record Inv (p : Beside) (d : Directory) (m c : List ℕ) : Type 0 where
+  pub lawful : Lawful (p .settings) d
+  pub memory : length m ≡ 2048
+  pub store : length c ≡ 2048
   pub copy : (n b : ℕ) → holds (slotAt d n) b ≡ true → blockAt c n ≡ blockAt (p .plain) b
   pub home : (b : ℕ) → b < 64 → ((n : ℕ) → slotAt d n ≡ Modified b → ⊥) → blockAt m b ≡ blockAt (p .plain) b
   pub under : (n b : ℕ) → slotAt d n ≡ Modified b → blockAt m b ≡ p .taken b
@@ -42,10 +52,11 @@ pub record Change (p : Beside) (d : Directory) (m m′ c c′ : List ℕ) (n : �
   pub kept : (b : ℕ) → (slotAt d n ≡ Modified b → ⊥) → blockAt m′ b ≡ blockAt m b
   pub home : (b : ℕ) → b < 64 → slotAt d n ≡ Modified b → (x ≡ Modified b → ⊥) → blockAt m′ b ≡ blockAt (p .plain) b
   pub under : (b : ℕ) → x ≡ Modified b → blockAt m′ b ≡ p .taken b
+  pub kind : (b : ℕ) → x ≡ Modified b → through (p .settings) (n / 16) ≡ false
 
 module _ (p : Beside) (d : Directory) (m m′ c c′ : List ℕ) (n : ℕ) (x : Slot) (i : Inv p d m c) (h : Change p d m m′ c c′ n x) where
   same : slotAt (setSlot d n x) n ≡ x
-  same = slot-same d n x (rw (i .slots) (h .place))
+  same = slot-same d n x (rw (i .lawful .slots) (h .place))
 
   change-placed : (j b : ℕ) → holds (slotAt (setSlot d n x) j) b ≡ true → (j < 64) × (b < 64) × (b % 16 ≡ j % 16)
   change-placed j b t = go (eq-or-ne j n)
@@ -54,7 +65,7 @@ module _ (p : Beside) (d : Directory) (m m′ c c′ : List ℕ) (n : ℕ) (x : 
       go (inl q) =
           let r : holds x b ≡ true = rw (q, same) at t in
           (rw q (h .place), h .fits b r .0, rw q (h .fits b r .1))
-      go (inr q) = i .placed j b (rw (slot-other d n j x q) at t)
+      go (inr q) = i .lawful .placed j b (rw (slot-other d n j x q) at t)
 
   change-lone : (k j b : ℕ) → slotAt (setSlot d n x) k ≡ Modified b → holds (slotAt (setSlot d n x) j) b ≡ true → j ≡ k
   change-lone k j b s t = go (eq-or-ne k n) (eq-or-ne j n)
@@ -63,7 +74,7 @@ module _ (p : Beside) (d : Directory) (m m′ c c′ : List ℕ) (n : ℕ) (x : 
       go (inl q) (inl r) = r ∙ sym q
       go (inl q) (inr r) = absurd (h .taken b j r (rw (q, same) at s) (rw (slot-other d n j x r) at t))
       go (inr q) (inl r) = absurd (h .owned b k q (rw (r, same) at t) (rw (slot-other d n k x q) at s))
-      go (inr q) (inr r) = i .lone k j b (rw (slot-other d n k x q) at s) (rw (slot-other d n j x r) at t)
+      go (inr q) (inr r) = i .lawful .lone k j b (rw (slot-other d n k x q) at s) (rw (slot-other d n j x r) at t)
 
   change-copy : (j b : ℕ) → holds (slotAt (setSlot d n x) j) b ≡ true → blockAt c′ j ≡ blockAt (p .plain) b
   change-copy j b t = go (eq-or-ne j n)
@@ -89,16 +100,28 @@ module _ (p : Beside) (d : Directory) (m m′ c c′ : List ℕ) (n : ℕ) (x : 
       go (inl q) = h .under b (rw (q, same) at s)
       go (inr q) =
           let r : slotAt d j ≡ Modified b = rw (slot-other d n j x q) at s in
-          h .kept b (λ z. q (sym (i .lone j n b r (modified-holds _ b z)))) ∙ i .under j b r
+          h .kept b (λ z. q (sym (i .lawful .lone j n b r (modified-holds _ b z)))) ∙ i .under j b r
+
+  change-kinds : (j b : ℕ) → slotAt (setSlot d n x) j ≡ Modified b → through (p .settings) (j / 16) ≡ false
+  change-kinds j b s = go (eq-or-ne j n)
+    where
+      go : (j ≡ n) ⊎ (j ≡ n → ⊥) → through (p .settings) (j / 16) ≡ false
+      go (inl q) = rw q (h .kind b (rw (q, same) at s))
+      go (inr q) = i .lawful .kinds j b (rw (slot-other d n j x q) at s)
 
   pub change : Inv p (setSlot d n x) m′ c′
   change =
       record {
-        slots = size-set d n x ∙ i .slots;
+        lawful =
+            record {
+              chosen = set-settings d n x ∙ i .lawful .chosen;
+              slots = size-set d n x ∙ i .lawful .slots;
+              placed = change-placed;
+              lone = change-lone;
+              kinds = change-kinds;
+            };
         memory = h .memory;
         store = h .store;
-        placed = change-placed;
-        lone = change-lone;
         copy = change-copy;
         home = change-home;
         under = change-under;

@@ -13,6 +13,7 @@ pub mod Accesses
 pub mod Steps
 pub mod Sessions
 pub mod Theorem
+pub mod Shapes
 pub mod Sentences
 pub mod AccessRows
 pub mod Examples

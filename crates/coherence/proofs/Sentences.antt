@@ -1,4 +1,4 @@
--- The definitions of the accesses say document 01's sentences.
+-- The definitions of the accesses say the documents' sentences.
 use mathlib.Core.Path.{_≡_, refl, sym, ap, _∙_}
 use mathlib.Core.List.{List, [], _∷_, _++_}
 use mathlib.Core.Bool.{Bool, true, false, cond, not, _&&_, false≢true}
@@ -9,7 +9,7 @@ use lib.ListN.{length}
 use lib.Dec.{ltb, eqb}
 use borrow.Author.Tests.{leb-true, eqb-true, eq-eqb, ne-eqb, lt-ltb, le-ltb}
 use Rattle.order.specs.declared.Command.{Command}
-use Rattle.order.specs.declared.Command.the-variants.{Read, ModifiedRead, Invalidate, Copyback}
+use Rattle.order.specs.declared.Command.the-variants.{Read, ModifiedRead, Invalidate, Copyback, MemoryWrite}
 use Rattle.order.specs.declared.Order.{Order}
 use Rattle.coherence.specs.declared.Slot.{Slot}
 use Rattle.coherence.specs.declared.Slot.the-variants.{Invalid, Shared, Modified}
@@ -17,17 +17,19 @@ use Rattle.coherence.specs.declared.Directory.{Directory}
 use Rattle.coherence.specs.declared.Call.{Call}
 use Rattle.coherence.specs.declared.Call.the-variants.{Load, Store, Flush}
 use Rattle.coherence.specs.Bytes.{blockAt, putBlock, wordAt, putWord}
-use Rattle.coherence.specs.Slots.{place, slotAt, holds, modified, ownerOf, sound}
-use Rattle.coherence.specs.Access.{Run, ready, give, mark, writeBack, copyback, emptied, empty, yield, ask, fill, fetch, eachUnit, expel, claim, cachePlace, write, load, own, store, flush}
+use Rattle.coherence.specs.Settings.{through}
+use Rattle.coherence.specs.Slots.{place, slotAt, slotOf, holds, modified, ownerOf, sound, Kinds, coldDirectory}
+use Rattle.coherence.specs.Access.{Run, ready, give, mark, writeBack, copyback, emptied, empty, yield, ask, fill, fetch, eachUnit, expel, claim, cachePlace, write, load, own, writeThrough, storeThrough, store, flush}
 use Rattle.coherence.specs.Refusal.{sized, isUnit, isBlock, startRefusal, peekRefusal}
 use Rattle.coherence.specs.Calls.{unitOf, isTarget, refusal, act, loaded, after, valueOf, answer, memoryAfter, cacheAfter, startAnswer, cacheStarted}
 use Rattle.coherence.specs.Peek.{fromCache, newestBlock, newest, peeked, peekFromCache, peekOffset}
-use Rattle.coherence.specs.Sentences.{Accepted, left, by, NoneHasEM, NotEM, MissOrders, SlotsLoaded, SlotsStored, SlotsFlushed, Leaves, wordPlace, LoadMissed, StoreShared, StoreMissed, FlushHeld, SentencesHold, PeeksHold, StartsHold}
+use Rattle.coherence.specs.Sentences.{Accepted, left, by, NoneHasEM, NotEM, MissOrders, SlotsLoaded, SlotsStored, SlotsThrough, SlotsFlushed, Leaves, wordPlace, LoadMissed, StoreShared, StoreMissed, ThroughOrders, StoreThrough, FlushHeld, SentencesHold, PeeksHold, StartsHold}
 use Rattle.coherence.proofs.Cases.{eq-or-ne, four}
-use Rattle.coherence.proofs.SlotLaws.{size, size-set, slot-same, slot-other, holds-invalid, modified-holds, shared-holds, holds-is, is-modified, invalid≢modified, shared≢modified, place-lt, place-ne, owner-cases, slot-cold}
-use Rattle.coherence.proofs.Rules.{sound-exclusive}
+use Rattle.coherence.proofs.SlotLaws.{size, size-set, slot-same, slot-other, holds-invalid, modified-holds, shared-holds, holds-is, is-modified, invalid≢modified, shared≢modified, place-lt, place-ne, place-unit, owner-cases, slot-cold}
+use Rattle.coherence.proofs.Rules.{sound-exclusive, tests-rules}
 use Rattle.coherence.proofs.RefusalLaws.{call-tests, start-tests, peek-tests, sized-say, sized-true}
 use Rattle.coherence.proofs.Counts.{orders-in}
+use Rattle.coherence.proofs.Shapes.{answer-settings}
 
 -- ---- an accepted call
 tests-say : (s t r g : Bool) → _≡_ {A = ℕ} (cond s (cond t (cond r (cond g 0 4) 3) 2) 1) 0 → (t ≡ true) × (r ≡ true)
@@ -158,10 +160,6 @@ ask-rest u x b w j h =
     o : ℕ
     o = ownerOf (w .directory) b
 
-place-div : (u b : ℕ) → place u b / 16 ≡ u
-unfolding place
-place-div u b = omega arith
-
 -- ---- a block is fetched
 module _ (d : Directory) (m k : List ℕ) (u b : ℕ) (x : Command) (l : u < 4) (z : size d ≡ 64) (s : sound d ≡ true)
     (f : holds (slotAt d (place u b)) b ≡ false) where
@@ -202,9 +200,9 @@ module _ (d : Directory) (m k : List ℕ) (u b : ℕ) (x : Command) (l : u < 4) 
   asked-held v g e =
       ask-held u x b w₁ v g (other₁ (place v b) (away v e) ∙ e)
       (λ o h y.
-      sym (place-div o b)
+      sym (place-unit o b)
       ∙ sound-exclusive d (place o b) (place v b) b s (place-lt o b h) (place-lt v b g) (before o y) (modified-holds _ b e)
-      ∙ place-div v b)
+      ∙ place-unit v b)
 
   cache₁ : w₁ .cache ≡ k
   unfolding ready
@@ -370,6 +368,33 @@ claim-does : (u b : ℕ) (w : Run) → size (w .directory) ≡ 64
 unfolding claim mark
 claim-does u b w z = let g : Expelled b w (eachUnit (expel u b) w) = each-does u b w z .0 in (g .orders, g .memory, g .cache)
 
+each-others : (u b : ℕ) (w : Run) → size (w .directory) ≡ 64 → (v : ℕ) → v < 4 → (v ≡ u → ⊥) → holds (slotAt (w .directory) (place v b)) b ≡ true
+    → slotAt (eachUnit (expel u b) w .directory) (place v b) ≡ Invalid
+each-others u b w z v h q t =
+    let g : Expelled b w (eachUnit (expel u b) w)
+    × ((v : ℕ) → v < 4 → (v ≡ u → ⊥) → holds (slotAt (eachUnit (expel u b) w .directory) (place v b)) b ≡ true → ⊥) = each-does u b w z in
+    ⊎-elim (λ p. absurd (g .1 v h q (ap (λ (y : Slot). holds y b) p ∙ t))) (λ p. p .0) (g .0 .drops (place v b))
+
+each-rest : (u b : ℕ) (w : Run) → size (w .directory) ≡ 64 → (n : ℕ) → holds (slotAt (w .directory) n) b ≡ false
+    → slotAt (eachUnit (expel u b) w .directory) n ≡ slotAt (w .directory) n
+each-rest u b w z n f = ⊎-elim (λ p. p) (λ p. absurd (false≢true (sym f ∙ p .1))) (each-does u b w z .0 .drops n)
+
+-- unit u's own slots
+expel-own : (u b v s : ℕ) (w : Run) → s < 16 → slotAt (expel u b v w .directory) (16 * u + s) ≡ slotAt (w .directory) (16 * u + s)
+unfolding expel mark place
+expel-own u b v s w l = ⊎-elim
+    (λ (q : v ≡ u). rw (eq-eqb v u q) refl)
+    (λ (q : v ≡ u → ⊥). go (not (eqb v u) && holds (slotAt (w .directory) (place v b)) b) q)
+    (eq-or-ne v u)
+  where
+    go : (t : Bool) → (v ≡ u → ⊥) → slotAt (cond t (mark (place v b) Invalid w) w .directory) (16 * u + s) ≡ slotAt (w .directory) (16 * u + s)
+    go true q = slot-other (w .directory) (16 * v + b % 16) (16 * u + s) Invalid (λ y. q (omega arith))
+    go false q = refl
+
+each-own : (u b s : ℕ) (w : Run) → s < 16 → slotAt (eachUnit (expel u b) w .directory) (16 * u + s) ≡ slotAt (w .directory) (16 * u + s)
+unfolding eachUnit
+each-own u b s w l = expel-own u b 3 s _ l ∙ expel-own u b 2 s _ l ∙ expel-own u b 1 s _ l ∙ expel-own u b 0 s w l
+
 -- the slots after a claim, where w has block b wherever d has it, and all else but u's slot as d
 claim-slots : (d : Directory) (u b : ℕ) (w : Run) → u < 4 → size (w .directory) ≡ 64
     → ((v : ℕ) → v < 4 → (v ≡ u → ⊥) → holds (slotAt d (place v b)) b ≡ true → holds (slotAt (w .directory) (place v b)) b ≡ true)
@@ -378,21 +403,14 @@ claim-slots : (d : Directory) (u b : ℕ) (w : Run) → u < 4 → size (w .direc
 unfolding claim mark
 claim-slots d u b w l z held kept =
     let v₁ : Run = eachUnit (expel u b) w in
-    let g : Expelled b w v₁ × ((v : ℕ) → v < 4 → (v ≡ u → ⊥) → holds (slotAt (v₁ .directory) (place v b)) b ≡ true → ⊥) = each-does u b w z in
     record {
-      own = slot-same (v₁ .directory) (place u b) (Modified b) (rw (g .0 .sizes, z) (place-lt u b l));
+      own = slot-same (v₁ .directory) (place u b) (Modified b) (rw (each-does u b w z .0 .sizes, z) (place-lt u b l));
       others = λ v h q t.
-          slot-other (v₁ .directory) (place u b) (place v b) (Modified b) (λ y. place-ne u v b q (sym y))
-          ∙ ⊎-elim
-          (λ p. absurd (g .1 v h q (ap (λ (y : Slot). holds y b) p ∙ held v h q t)))
-          (λ p. p .0)
-          (g .0 .drops (place v b));
+          slot-other (v₁ .directory) (place u b) (place v b) (Modified b) (λ y. place-ne u v b q (sym y)) ∙ each-others u b w z v h q (held v h q t);
       rest = λ n q f.
           slot-other (v₁ .directory) (place u b) n (Modified b) q
-          ∙ ⊎-elim
-          (λ p. p ∙ kept n q f)
-          (λ p. absurd (false≢true (sym f ∙ ap (λ (y : Slot). holds y b) (sym (kept n q f)) ∙ p .1)))
-          (g .0 .drops n);
+          ∙ each-rest u b w z n (ap (λ (y : Slot). holds y b) (kept n q f) ∙ f)
+          ∙ kept n q f;
     }
 
 -- ---- the accesses
@@ -418,11 +436,11 @@ module _ (d : Directory) (m k : List ℕ) (z : size d ≡ 64) where
         cache = fetch-cache d m k u (a / 32) Read (q .1) z (q .0) e;
       })
 
-  store-modified : (u a v : ℕ) → refusal d m k (Store u a v) ≡ 0 → slotAt d (place u (a / 32)) ≡ Modified (a / 32)
+  store-modified : (u a v : ℕ) → refusal d m k (Store u a v) ≡ 0 → through (d .settings) u ≡ false → slotAt d (place u (a / 32)) ≡ Modified (a / 32)
       → Leaves d m [] (putWord k (wordPlace u a) v) (after d m k (Store u a v))
   unfolding act store own write ready
-  store-modified u a v r e =
-      rw (acts d m k (Store u a v) r, is-modified (slotAt d (place u (a / 32))) (a / 32) e)
+  store-modified u a v r c e =
+      rw (acts d m k (Store u a v) r, c, is-modified (slotAt d (place u (a / 32))) (a / 32) e)
       (record { orders = refl; directory = refl; memory = refl; cache = ap (λ (p : ℕ). putWord k p v) (word-place u a) })
 
   not-modified : (u b : ℕ) → slotAt d (place u b) ≡ Shared b → modified (slotAt d (place u b)) b ≡ false
@@ -438,20 +456,20 @@ module _ (d : Directory) (m k : List ℕ) (z : size d ≡ 64) where
       go (Shared c) f = refl
       go (Modified c) f = f
 
-  shares : (u a v : ℕ) → slotAt d (place u (a / 32)) ≡ Shared (a / 32)
+  shares : (u a v : ℕ) → through (d .settings) u ≡ false → slotAt d (place u (a / 32)) ≡ Shared (a / 32)
       → act (Store u a v) (ready d m k) ≡ write u a v (claim u (a / 32) (give u Invalidate (a / 32) false (ready d m k)))
   unfolding act store own ready
-  shares u a v e = rw (not-modified u (a / 32) e, shared-holds (slotAt d (place u (a / 32))) (a / 32) e) refl
+  shares u a v c e = rw (c, not-modified u (a / 32) e, shared-holds (slotAt d (place u (a / 32))) (a / 32) e) refl
 
-  store-shared : (u a v : ℕ) → refusal d m k (Store u a v) ≡ 0 → slotAt d (place u (a / 32)) ≡ Shared (a / 32)
+  store-shared : (u a v : ℕ) → refusal d m k (Store u a v) ≡ 0 → through (d .settings) u ≡ false → slotAt d (place u (a / 32)) ≡ Shared (a / 32)
       → StoreShared d m k u a v (after d m k (Store u a v))
   unfolding unitOf write give ready
-  store-shared u a v r e =
+  store-shared u a v r y e =
       let b : ℕ = a / 32 in
       let w : Run = give u Invalidate b false (ready d m k) in
       let q : (sound d ≡ true) × (u < 4) = accepted-says d m k (Store u a v) r in
       let c : (claim u b w .orders ≡ w .orders) × (claim u b w .memory ≡ w .memory) × (claim u b w .cache ≡ w .cache) = claim-does u b w z in
-      rw (acts d m k (Store u a v) r, shares u a v e)
+      rw (acts d m k (Store u a v) r, shares u a v y e)
       (record {
         orders = c .0;
         slots = claim-slots d u b w (q .1) z (λ x h y t. t) (λ n h t. refl);
@@ -459,15 +477,15 @@ module _ (d : Directory) (m k : List ℕ) (z : size d ≡ 64) where
         cache = ap (λ (x : List ℕ). putWord x (cachePlace u a) v) (c .2) ∙ ap (λ (p : ℕ). putWord k p v) (word-place u a);
       })
 
-  fetches : (u a v : ℕ) → holds (slotAt d (place u (a / 32))) (a / 32) ≡ false
+  fetches : (u a v : ℕ) → through (d .settings) u ≡ false → holds (slotAt d (place u (a / 32))) (a / 32) ≡ false
       → act (Store u a v) (ready d m k) ≡ write u a v (claim u (a / 32) (fetch u ModifiedRead (a / 32) (ready d m k)))
   unfolding act store own ready
-  fetches u a v e = rw (missed-modified u (a / 32) e, e) refl
+  fetches u a v c e = rw (c, missed-modified u (a / 32) e, e) refl
 
-  store-missed : (u a v : ℕ) → refusal d m k (Store u a v) ≡ 0 → holds (slotAt d (place u (a / 32))) (a / 32) ≡ false
+  store-missed : (u a v : ℕ) → refusal d m k (Store u a v) ≡ 0 → through (d .settings) u ≡ false → holds (slotAt d (place u (a / 32))) (a / 32) ≡ false
       → StoreMissed d m k u a v (after d m k (Store u a v))
   unfolding unitOf write
-  store-missed u a v r e =
+  store-missed u a v r i e =
       let b : ℕ = a / 32 in
       let w : Run = fetch u ModifiedRead b (ready d m k) in
       let q : (sound d ≡ true) × (u < 4) = accepted-says d m k (Store u a v) r in
@@ -476,7 +494,7 @@ module _ (d : Directory) (m k : List ℕ) (z : size d ≡ 64) where
       let o : MissOrders d m k u b ModifiedRead (w .orders) (w .memory) = fetch-orders d m k u b ModifiedRead (q .1) z (q .0) e in
       let h : w .cache ≡ putBlock k (place u b) (blockAt (w .memory) b) = fetch-cache d m k u b ModifiedRead (q .1) z (q .0) e in
       let c : (claim u b w .orders ≡ w .orders) × (claim u b w .memory ≡ w .memory) × (claim u b w .cache ≡ w .cache) = claim-does u b w y in
-      rw (acts d m k (Store u a v) r, fetches u a v e)
+      rw (acts d m k (Store u a v) r, fetches u a v i e)
       (record {
         orders = rw (c .0, c .1) o;
         slots =
@@ -490,6 +508,91 @@ module _ (d : Directory) (m k : List ℕ) (z : size d ≡ 64) where
         cache =
             ap (λ (x : List ℕ). putWord x (cachePlace u a) v) (c .2 ∙ h ∙ ap (λ (x : List ℕ). putBlock k (place u b) (blockAt x b)) (sym (c .1)))
             ∙ ap (λ (p : ℕ). putWord (putBlock k (place u b) (blockAt (claim u b w .memory) b)) p v) (word-place u a);
+      })
+
+  -- a write-through unit has nothing EM
+  not-own-em : (u b s : ℕ) → u < 4 → sound d ≡ true → through (d .settings) u ≡ true → s < 16 → slotAt d (16 * u + s) ≡ Modified b → ⊥
+  unfolding slotOf Kinds
+  not-own-em u b s l q t h e = false≢true (sym (tests-rules d .whole .enough q .1 u s b l h e) ∙ t)
+
+  -- the machine once write-through unit u has asked for block b
+  module _ (u b : ℕ) (l : u < 4) (q : sound d ≡ true) (t : through (d .settings) u ≡ true) where
+    abbrev w₂ : Run
+    w₂ = ask u MemoryWrite b (ready d m k)
+
+    size₂ : size (w₂ .directory) ≡ 64
+    unfolding ready
+    size₂ = ask-size u MemoryWrite b (ready d m k) ∙ z
+
+    held₂ : (v : ℕ) → v < 4 → slotAt d (place v b) ≡ Modified b
+        → w₂ ≡ give u MemoryWrite b false (copyback v (place v b) b (give u MemoryWrite b true (ready d m k)))
+    unfolding ready
+    held₂ v g e =
+        ask-held u MemoryWrite b (ready d m k) v g e
+        (λ o h y.
+        sym (place-unit o b)
+        ∙ sound-exclusive d (place o b) (place v b) b q (place-lt o b h) (place-lt v b g) y (modified-holds _ b e)
+        ∙ place-unit v b)
+
+    free₂ : NoneHasEM d b → w₂ ≡ give u MemoryWrite b false (ready d m k)
+    unfolding ready
+    free₂ h = ask-free u MemoryWrite b (ready d m k) h
+
+    rest₂ : (n : ℕ) → (slotAt d n ≡ Modified b → ⊥) → slotAt (w₂ .directory) n ≡ slotAt d n
+    unfolding ready
+    rest₂ n h = ask-rest u MemoryWrite b (ready d m k) n h
+
+    -- who held block b holds it then
+    holders₂ : (v : ℕ) → v < 4 → holds (slotAt d (place v b)) b ≡ true → holds (slotAt (w₂ .directory) (place v b)) b ≡ true
+    unfolding give copyback mark writeBack ready
+    holders₂ v g h = ⊎-elim
+        (λ e. shared-holds _ b (rest₂ (place v b) (λ y. shared≢modified b b (sym e ∙ y)) ∙ e))
+        (λ e. shared-holds _ b (rw (held₂ v g e) (slot-same d (place v b) (Shared b) (rw z (place-lt v b g)))))
+        (holds-is _ b h)
+
+    through-slots : SlotsThrough d u b (eachUnit (expel u b) w₂ .directory)
+    through-slots =
+        record {
+          own = λ s h. each-own u b s w₂ h ∙ rest₂ (16 * u + s) (not-own-em u b s l q t h);
+          others = λ v g n h. each-others u b w₂ size₂ v g n (holders₂ v g h);
+          rest = λ n f.
+              let e : slotAt (w₂ .directory) n ≡ slotAt d n = rest₂ n (λ y. false≢true (sym f ∙ modified-holds _ b y)) in
+              each-rest u b w₂ size₂ n (ap (λ (y : Slot). holds y b) e ∙ f) ∙ e;
+        }
+
+    own-slot : slotAt (eachUnit (expel u b) w₂ .directory) (place u b) ≡ slotAt d (place u b)
+    unfolding place
+    own-slot = through-slots .own (b % 16) (omega arith)
+
+  writes : (u a v : ℕ) → through (d .settings) u ≡ true → act (Store u a v) (ready d m k) ≡ storeThrough u a v (ready d m k)
+  unfolding act store ready
+  writes u a v t = rw t refl
+
+  -- its orders, and what memory has before the word
+  gives : (u a v : ℕ) → u < 4 → sound d ≡ true → through (d .settings) u ≡ true
+      → ThroughOrders d m k u a v (ask u MemoryWrite (a / 32) (ready d m k) .orders) (putWord (ask u MemoryWrite (a / 32) (ready d m k) .memory) a v)
+  unfolding give copyback mark writeBack ready
+  gives u a v l q t =
+      record {
+        alone = λ h. rw (free₂ u (a / 32) l q t h) (refl, refl);
+        retried = λ x g e. rw (held₂ u (a / 32) l q t x g e) (refl, refl);
+      }
+
+  store-through : (u a v : ℕ) → refusal d m k (Store u a v) ≡ 0 → through (d .settings) u ≡ true → StoreThrough d m k u a v (after d m k (Store u a v))
+  unfolding unitOf storeThrough writeThrough write ready
+  store-through u a v r t =
+      let b : ℕ = a / 32 in
+      let q : (sound d ≡ true) × (u < 4) = accepted-says d m k (Store u a v) r in
+      let x : Run = ask u MemoryWrite b (ready d m k) in
+      let g : Expelled b x (eachUnit (expel u b) x) = each-does u b x (size₂ u b (q .1) (q .0) t) .0 in
+      rw (acts d m k (Store u a v) r, writes u a v t)
+      (record {
+        orders = rw (g .orders, g .memory) (gives u a v (q .1) (q .0) t);
+        slots = through-slots u b (q .1) (q .0) t;
+        held = λ h.
+            rw (own-slot u b (q .1) (q .0) t, h)
+            (ap (λ (y : List ℕ). putWord y (cachePlace u a) v) (g .cache ∙ ask-cache u MemoryWrite b (ready d m k)) ∙ ap (λ (p : ℕ). putWord k p v) (word-place u a));
+        missed = λ h. rw (own-slot u b (q .1) (q .0) t, h) (g .cache ∙ ask-cache u MemoryWrite b (ready d m k));
       })
 
   flush-slots : (u b : ℕ) → u < 4 → SlotsFlushed d u b (empty u (place u b) (ready d m k) .directory)
@@ -565,13 +668,15 @@ unfolding SentencesHold size answer
 sentences d m k z =
     record {
       loadHeld = λ u a r e. rw (left-is d m k z (Load u a)) (load-held d m k z u a r e);
-      storeModified = λ u a v r e. rw (left-is d m k z (Store u a v)) (store-modified d m k z u a v r e);
-      storeShared = λ u a v r e. rw (left-is d m k z (Store u a v)) (store-shared d m k z u a v r e);
+      storeModified = λ u a v r t e. rw (left-is d m k z (Store u a v)) (store-modified d m k z u a v r t e);
+      storeShared = λ u a v r t e. rw (left-is d m k z (Store u a v)) (store-shared d m k z u a v r t e);
       loadMissed = λ u a r e. rw (left-is d m k z (Load u a)) (load-missed d m k z u a r e);
-      storeMissed = λ u a v r e. rw (left-is d m k z (Store u a v)) (store-missed d m k z u a v r e);
+      storeMissed = λ u a v r t e. rw (left-is d m k z (Store u a v)) (store-missed d m k z u a v r t e);
+      storeThrough = λ u a v r t. rw (left-is d m k z (Store u a v)) (store-through d m k z u a v r t);
       flushModified = λ u b r e. rw (left-is d m k z (Flush u b)) (flush-modified d m k z u b r e);
       flushShared = λ u b r e. rw (left-is d m k z (Flush u b)) (flush-shared d m k z u b r e);
       flushOther = λ u b r e. rw (left-is d m k z (Flush u b)) (flush-other d m k z u b r e);
+      kept = answer-settings d m k;
       loaded = load-value d m k z;
       stored = store-value d m k z;
       flushed = flush-value d m k z;
@@ -591,9 +696,9 @@ owner-is : (d : Directory) (b v : ℕ) → sound d ≡ true → v < 4 → slotAt
 owner-is d b v s g e =
     ⊎-elim
     (λ q.
-    sym (place-div (ownerOf d b) b)
+    sym (place-unit (ownerOf d b) b)
     ∙ sound-exclusive d (place (ownerOf d b) b) (place v b) b s (place-lt (ownerOf d b) b (q .0)) (place-lt v b g) (q .1) (modified-holds _ b e)
-    ∙ place-div v b)
+    ∙ place-unit v b)
     (λ q. absurd (q .1 v g e))
     (owner-cases d b)
 
@@ -637,10 +742,11 @@ start-refuses m k h = start-tests m k ∙ go (sized m k) refl
     go false e = refl
 
 pub starts-hold : StartsHold
-unfolding StartsHold startAnswer cacheStarted
-starts-hold m k =
+unfolding StartsHold startAnswer cacheStarted coldDirectory
+starts-hold g m k =
     record {
-      slots = λ n. slot-cold n;
+      slots = λ n. slot-cold g n;
+      settings = refl;
       accepted = λ e f. rw (start-accepts m k e f) (refl, refl);
       refused = λ h. rw (start-refuses m k h) (refl, refl);
     }

@@ -4,6 +4,7 @@ use mathlib.Core.List.{List, [], _∷_}
 use Prim.Native.Nat.{ℕ}
 use lib.ListN.{length, replicate}
 use borrow.Author.Tests.{eq-eqb}
+use Rattle.coherence.specs.declared.Settings.{Settings}
 use Rattle.coherence.specs.declared.Directory.{Directory}
 use Rattle.coherence.specs.declared.Call.{Call}
 use Rattle.coherence.specs.declared.Answer.{Answer}
@@ -16,12 +17,12 @@ use Rattle.coherence.specs.Demand3.{Started, Answered, Ran, Sessions}
 use Rattle.coherence.proofs.RefusalLaws.{start-tests, sized-true}
 
 -- ---- a cold start
-module _ (m : List ℕ) (s : Start) (k k′ : List ℕ) (h : Started m k s k′) (a : s .refusal ≡ 0) where
+module _ (g : Settings) (m : List ℕ) (s : Start) (k k′ : List ℕ) (h : Started g m k s k′) (a : s .refusal ≡ 0) where
   pub start-accepted : startRefusal m k ≡ 0
   unfolding startAnswer
   start-accepted = sym (ap (λ (x : Start). x .refusal) (h .answers)) ∙ a
 
-  pub start-directory : s .directory ≡ coldDirectory
+  pub start-directory : s .directory ≡ coldDirectory g
   unfolding startAnswer
   start-directory = ap (λ (x : Start). x .directory) (h .answers)
 
@@ -55,25 +56,25 @@ ran-some d m k (c ∷ cs) = (
 cold-accepted : (m k : List ℕ) → length m ≡ 2048 → length k ≡ 2048 → startRefusal m k ≡ 0
 cold-accepted m k e f = start-tests m k ∙ rw (sized-true m k e f) refl
 
-cold-started : (m k : List ℕ) → length m ≡ 2048 → length k ≡ 2048 → Started m k (startAnswer m k) (replicate 2048 0)
+cold-started : (g : Settings) (m k : List ℕ) → length m ≡ 2048 → length k ≡ 2048 → Started g m k (startAnswer g m k) (replicate 2048 0)
 unfolding cacheStarted
-cold-started m k e f = record { answers = refl; cache = rw (eq-eqb (startRefusal m k) 0 (cold-accepted m k e f)) refl }
+cold-started g m k e f = record { answers = refl; cache = rw (eq-eqb (startRefusal m k) 0 (cold-accepted m k e f)) refl }
 
-pub sessions : (m : List ℕ) (cs : List Call) → Sessions m cs
+pub sessions : (g : Settings) (m : List ℕ) (cs : List Call) → Sessions g m cs
 unfolding answersCold afterCold startAnswer
-sessions m cs =
+sessions g m cs =
     record {
       some = λ k e f.
           record {
             lent = k;
             cleared = replicate 2048 0;
-            started = cold-started m k e f;
+            started = cold-started g m k e f;
             accepts = cold-accepted m k e f;
-            ran = ran-some coldDirectory m (replicate 2048 0) cs;
+            ran = ran-some (coldDirectory g) m (replicate 2048 0) cs;
           };
       one = λ s rs d′ m′ k′ h.
-          let d : s .directory ≡ coldDirectory = start-directory m s (h .lent) (h .cleared) (h .started) (h .accepts) in
-          let c : h .cleared ≡ replicate 2048 0 = start-cache m s (h .lent) (h .cleared) (h .started) (h .accepts) in
+          let d : s .directory ≡ coldDirectory g = start-directory g m s (h .lent) (h .cleared) (h .started) (h .accepts) in
+          let c : h .cleared ≡ replicate 2048 0 = start-cache g m s (h .lent) (h .cleared) (h .started) (h .accepts) in
           let q : rs ≡ answers (s .directory) m (h .cleared) cs = ran-one (s .directory) m (h .cleared) cs rs d′ m′ k′ (h .ran) in
           rw (d, c) at q;
     }

@@ -11,6 +11,7 @@ use borrow.Author.Tests.{eqb-true, eq-eqb}
 use Rattle.coherence.specs.declared.Slot.{Slot}
 use Rattle.coherence.specs.declared.Slot.the-variants.{Invalid, Shared, Modified}
 use Rattle.coherence.specs.declared.Entry.{Entry}
+use Rattle.coherence.specs.declared.Settings.{Settings}
 use Rattle.coherence.specs.declared.Directory.{Directory}
 use Rattle.coherence.specs.Slots.{emptyEntry, place, slotAt, setSlot, holds, modified, ownerOf, coldDirectory}
 use Rattle.coherence.proofs.Cases.{lt-or-le, four}
@@ -30,6 +31,11 @@ pub slot-other : (d : Directory) (n j : ℕ) (x : Slot) → (j ≡ n → ⊥) �
 unfolding setSlot slotAt
 slot-other d n j x h = ap (λ (e : Entry). e .slot) (getD-set-other (d .slots) n j (record { slot = x }) emptyEntry h)
 
+-- no change of a slot changes the settings
+pub set-settings : (d : Directory) (n : ℕ) (x : Slot) → setSlot d n x .settings ≡ d .settings
+unfolding setSlot
+set-settings d n x = refl
+
 -- ---- places
 pub place-lt : (u b : ℕ) → u < 4 → place u b < 64
 unfolding place
@@ -38,6 +44,10 @@ place-lt u b h = omega arith
 pub place-mod : (u b : ℕ) → b % 16 ≡ place u b % 16
 unfolding place
 place-mod u b = omega arith
+
+pub place-unit : (u b : ℕ) → place u b / 16 ≡ u
+unfolding place
+place-unit u b = omega arith
 
 -- a slot in which block b may stand is one of the four places of b
 pub place-of : (n b : ℕ) → n < 64 → b % 16 ≡ n % 16 → (n / 16 < 4) × (n ≡ place (n / 16) b)
@@ -81,6 +91,12 @@ pub holds-modified : (b c : ℕ) → holds (Modified b) c ≡ true → b ≡ c
 unfolding holds
 holds-modified b c e = eqb-true b c e
 
+pub holds-one : (x : Slot) (b c : ℕ) → holds x b ≡ true → holds x c ≡ true → b ≡ c
+unfolding holds
+holds-one Invalid b c e f = absurd (false≢true e)
+holds-one (Shared a) b c e f = sym (eqb-true a b e) ∙ eqb-true a c f
+holds-one (Modified a) b c e f = sym (eqb-true a b e) ∙ eqb-true a c f
+
 pub holds-invalid : (b : ℕ) → holds Invalid b ≡ false
 unfolding holds
 holds-invalid b = refl
@@ -121,9 +137,9 @@ owner-cases d b = go (m 0) (m 1) (m 2) (m 3) refl refl refl refl
         inr (omega arith, four (λ v. slotAt d (place v b) ≡ Modified b → ⊥) (none 0 e) (none 1 f) (none 2 g) (none 3 h))
 
 -- ---- a cold start's directory
-pub size-cold : size coldDirectory ≡ 64
+pub size-cold : (g : Settings) → size (coldDirectory g) ≡ 64
 unfolding size coldDirectory
-size-cold = length-replicate 64 emptyEntry
+size-cold g = length-replicate 64 emptyEntry
 
 slot-empty : (n k : ℕ) → getD (replicate n emptyEntry) k emptyEntry ≡ emptyEntry
 slot-empty n k = go (lt-or-le k n)
@@ -132,6 +148,6 @@ slot-empty n k = go (lt-or-le k n)
     go (inl h) = getD-replicate n k emptyEntry emptyEntry h
     go (inr h) = List·getD-eq-default (replicate n emptyEntry) emptyEntry (rw (length-replicate) h)
 
-pub slot-cold : (n : ℕ) → slotAt coldDirectory n ≡ Invalid
+pub slot-cold : (g : Settings) (n : ℕ) → slotAt (coldDirectory g) n ≡ Invalid
 unfolding slotAt coldDirectory
-slot-cold n = ap (λ (e : Entry). e .slot) (slot-empty 64 n)
+slot-cold g n = ap (λ (e : Entry). e .slot) (slot-empty 64 n)

@@ -7,6 +7,7 @@ use Prim.Native.Nat.{ℕ, _+_, _*_, _/_, _%_, _≤_, _<_}
 use native.Mathlib.Omega.{arith}
 use lib.ListN.{length}
 use lib.Dec.{eqb}
+use Rattle.coherence.specs.declared.Settings.{Settings}
 use Rattle.coherence.specs.declared.Directory.{Directory}
 use Rattle.coherence.specs.declared.Call.{Call}
 use Rattle.coherence.specs.declared.Call.the-variants.{Load, Store, Flush}
@@ -20,46 +21,47 @@ use Rattle.coherence.specs.PlainMemory.{Reply, plainAccepts, plainPut, p
 use Rattle.coherence.specs.Demand3.{Answered, Ran, reply, ordersIn, ordersGiven, acceptedOf, Each}
 use Rattle.coherence.specs.Snapshot.{replaced, takenBy, takenAfter, takenAfterAll}
 use Rattle.coherence.proofs.PlainLaws.{own-words, load-accepted, store-accepted, flush-accepted}
-use Rattle.coherence.proofs.Rules.{rules-test}
+use Rattle.coherence.proofs.Rules.{slots-test, kinds-test, sound-of}
 use Rattle.coherence.proofs.RefusalLaws.{call-tests, sized-true}
 use Rattle.coherence.proofs.Counts.{orders-in}
 use Rattle.coherence.proofs.Weights.{debt}
-use Rattle.coherence.proofs.Invariant.{Beside, Inv}
+use Rattle.coherence.proofs.Invariant.{Beside, Lawful, Inv}
 use Rattle.coherence.proofs.Actions.{Keeps, cost}
 use Rattle.coherence.proofs.Accesses.{takeOver, written, storing, load-keeps, store-keeps, flush-keeps}
 
 -- ---- what the invariant says of the directory
-module _ (p : Beside) (d : Directory) (m k : List ℕ) (i : Inv p d m k) where
-  pub inv-sound : sound d ≡ true
-  inv-sound =
-      rules-test d
-      (λ n b l t. let q : (n < 64) × (b < 64) × (b % 16 ≡ n % 16) = i .placed n b t in (omega arith, q .2))
-      (λ n j b l h e t. ap (λ (x : ℕ). x / 16) (sym (i .lone n j b e t)))
+pub lawful-sound : (g : Settings) (d : Directory) → Lawful g d → sound d ≡ true
+lawful-sound g d i =
+    sound-of d
+    (slots-test d
+    (λ n b l t. let q : (n < 64) × (b < 64) × (b % 16 ≡ n % 16) = i .placed n b t in (omega arith, q .2))
+    (λ n j b l h e t. ap (λ (x : ℕ). x / 16) (sym (i .lone n j b e t))))
+    (kinds-test d (λ n b l e. rw (i .chosen) (i .kinds n b e)))
 
-  pub inv-exclusive : Exclusive d
-  unfolding Exclusive slotOf
-  inv-exclusive u v s t b lu lv ls lt e f =
-      let q : 16 * v + t ≡ 16 * u + s = i .lone (16 * u + s) (16 * v + t) b e f in omega arith
+pub lawful-exclusive : (g : Settings) (d : Directory) → Lawful g d → Exclusive d
+unfolding Exclusive slotOf
+lawful-exclusive g d i u v s t b lu lv ls lt e f =
+    let q : 16 * v + t ≡ 16 * u + s = i .lone (16 * u + s) (16 * v + t) b e f in omega arith
 
-  -- the machine accepts a call exactly if the plain memory does
-  pub inv-accepts : (c : Call) → eqb (refusal d m k c) 0 ≡ plainAccepts c
-  unfolding refusal
-  inv-accepts c =
-      rw (call-tests d m k (unitOf c) (isTarget c), sized-true m k (i .memory) (i .store), inv-sound)
-      (two (isUnit (unitOf c)) (isTarget c) ∙ own-words c)
-    where
-      two : (s t : Bool) → eqb (cond s (cond t 0 4) 3) 0 ≡ (s && t)
-      two true true = refl
-      two true false = refl
-      two false t = refl
+-- the machine accepts a call exactly if the plain memory does
+inv-accepts : (p : Beside) (d : Directory) (m k : List ℕ) → Inv p d m k → (c : Call) → eqb (refusal d m k c) 0 ≡ plainAccepts c
+unfolding refusal
+inv-accepts p d m k i c =
+    rw (call-tests d m k (unitOf c) (isTarget c), sized-true m k (i .memory) (i .store), lawful-sound (p .settings) d (i .lawful))
+    (two (isUnit (unitOf c)) (isTarget c) ∙ own-words c)
+  where
+    two : (s t : Bool) → eqb (cond s (cond t 0 4) 3) 0 ≡ (s && t)
+    two true true = refl
+    two true false = refl
+    two false t = refl
 
 -- ---- one call
 -- the plain memory and its taken blocks after a call, accepted or not, in the directory d
 unfoldable pub besideAfter : Directory → Call → Beside → Beside
-besideAfter d c p = record { plain = plainAfter c (p .plain); taken = takenAfter d c (p .plain) (p .taken) }
+besideAfter d c p = record { plain = plainAfter c (p .plain); taken = takenAfter d c (p .plain) (p .taken); settings = p .settings }
 
 unfoldable pub besideBy : Directory → Call → Beside → Beside
-besideBy d c p = record { plain = plainPut c (p .plain); taken = takenBy d c (p .plain) (p .taken) }
+besideBy d c p = record { plain = plainPut c (p .plain); taken = takenBy d c (p .plain) (p .taken); settings = p .settings }
 
 -- what a call may cost: 1 for a load, 1 + e for a store
 unfoldable pub charge : ℕ → Call → ℕ
@@ -72,7 +74,11 @@ unfolding written storing takeOver besideBy plainPut takenBy
 stored d u a v p = go (modified (slotAt d (place u (a / 32))) (a / 32))
   where
     go : (t : Bool) → written (cond t p (takeOver p (a / 32))) a v
-        ≡ record { plain = putWord (p .plain) a v; taken = cond t (p .taken) (replaced (p .taken) (a / 32) (blockAt (p .plain) (a / 32))) }
+        ≡ record {
+          plain = putWord (p .plain) a v;
+          taken = cond t (p .taken) (replaced (p .taken) (a / 32) (blockAt (p .plain) (a / 32)));
+          settings = p .settings;
+        }
     go true = refl
     go false = refl
 
@@ -143,19 +149,19 @@ step e two p d m k c i =
 
 -- ---- a list of calls
 unfoldable pub besideAfterAll : Directory → Beside → List Call → List Answer → Beside
-besideAfterAll d p cs rs = record { plain = plainAfterAll (p .plain) cs; taken = takenAfterAll d (p .plain) (p .taken) cs rs }
+besideAfterAll d p cs rs = record { plain = plainAfterAll (p .plain) cs; taken = takenAfterAll d (p .plain) (p .taken) cs rs; settings = p .settings }
 
 pub record Over (e : ℕ) (p : Beside) (d : Directory) (cs : List Call) (rs : List Answer) (d′ : Directory) (m′ k′ : List ℕ) : Type 0 where
   pub keeps : Inv (besideAfterAll d p cs rs) d′ m′ k′
   pub says : map reply rs ≡ plainReplies (p .plain) cs
-  pub exclusive : Each (λ r. Exclusive (r .directory)) rs
+  pub lawful : Each (λ r. Lawful (p .settings) (r .directory)) rs
   pub cost : ordersGiven rs + debt e d′ ≤ acceptedOf (charge e) cs + debt e d
 
 pub run : (e : ℕ) → 2 ≤ e → (p : Beside) (d : Directory) (m k : List ℕ) (cs : List Call) (rs : List Answer) (d′ : Directory) (m′ k′ : List ℕ)
     → Inv p d m k → Ran d m k cs rs d′ m′ k′ → Over e p d cs rs d′ m′ k′
 unfolding Ran Each ordersGiven acceptedOf plainReplies plainAfterAll takenAfterAll besideAfterAll besideAfter
 run e two p d m k [] [] d′ m′ k′ i h =
-    record { keeps = rw (h .0, h .1, h .2) i; says = refl; exclusive = tt; cost = rw (h .0) (omega arith) }
+    record { keeps = rw (h .0, h .1, h .2) i; says = refl; lawful = tt; cost = rw (h .0) (omega arith) }
 run e two p d m k [] (r ∷ rs) d′ m′ k′ i h = absurd h
 run e two p d m k (c ∷ cs) [] d′ m′ k′ i h = absurd h
 run e two p d m k (c ∷ cs) (r ∷ rs) d′ m′ k′ i h =
@@ -167,6 +173,6 @@ run e two p d m k (c ∷ cs) (r ∷ rs) d′ m′ k′ i h =
     record {
       keeps = o .keeps;
       says = ap₂ _∷_ (ap reply (a .answers) ∙ s .says) (o .says);
-      exclusive = (inv-exclusive (besideAfter d c p) (r .directory) (h .0) (h .1) j, o .exclusive);
+      lawful = (j .lawful, o .lawful);
       cost = omega (arith, o .cost);
     }

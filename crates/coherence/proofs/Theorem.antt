@@ -7,6 +7,7 @@ use Prim.Native.Nat.{ℕ, _+_, _*_, _≤_, _<_}
 use native.Mathlib.Omega.{arith}
 use lib.ListN.{length, replicate, length-replicate}
 use borrow.Author.Tests.{lt-ltb, le-ltb, le-leb, eq-eqb}
+use Rattle.coherence.specs.declared.Settings.{Settings}
 use Rattle.coherence.specs.declared.Directory.{Directory}
 use Rattle.coherence.specs.declared.Call.{Call}
 use Rattle.coherence.specs.declared.Call.the-variants.{Load, Store, Flush}
@@ -17,53 +18,65 @@ use Rattle.coherence.specs.Slots.{place, slotAt, holds, ownerOf, coldDir
 use Rattle.coherence.specs.Refusal.{isBlock, peekRefusal}
 use Rattle.coherence.specs.Peek.{fromCache, newestBlock, newest, peeked}
 use Rattle.coherence.specs.PlainMemory.{plainAccepts}
-use Rattle.coherence.specs.Demand3.{Started, Session, isLoad, isStore, acceptedOf, loads, stores, Demand3Holds, PeekPlain, PeekShowsPlain}
+use Rattle.coherence.specs.Demand3.{Started, Session, isLoad, isStore, acceptedOf, loads, stores, Each, Demand3Holds, PeekPlain, PeekShowsPlain}
 use Rattle.coherence.specs.Snapshot.{Snapshots}
-use Rattle.coherence.proofs.SlotLaws.{holds-invalid, invalid≢modified, modified-holds, owner-cases, size-cold, slot-cold}
+use Rattle.coherence.proofs.SlotLaws.{holds-invalid, modified-holds, owner-cases, size-cold, slot-cold}
 use Rattle.coherence.proofs.RefusalLaws.{peek-tests, sized-true, start-passed}
 use Rattle.coherence.proofs.Weights.{debt, debt-cold}
-use Rattle.coherence.proofs.Invariant.{Beside, Inv}
+use Rattle.coherence.proofs.Invariant.{Beside, Lawful, Inv}
 use Rattle.coherence.proofs.Actions.{none-em}
 use Rattle.coherence.proofs.Sessions.{start-accepted, start-directory, start-cache}
-use Rattle.coherence.proofs.Steps.{inv-sound, inv-exclusive, charge, besideAfterAll, Over, run}
+use Rattle.coherence.proofs.Steps.{lawful-sound, lawful-exclusive, charge, besideAfterAll, Over, run}
 
 -- ---- the cold start
--- the plain memory at first: the memory store's bytes
-unfoldable pub atFirst : List ℕ → Beside
-atFirst m = record { plain = m; taken = blockAt m }
+-- the plain memory at first, the memory store's bytes, and the settings
+unfoldable pub atFirst : Settings → List ℕ → Beside
+atFirst g m = record { plain = m; taken = blockAt m; settings = g }
 
-pub cold-keeps : (m : List ℕ) → length m ≡ 2048 → Inv (atFirst m) coldDirectory m (replicate 2048 0)
-unfolding atFirst
-cold-keeps m h =
+cold-empty : (g : Settings) (n b : ℕ) → holds (slotAt (coldDirectory g) n) b ≡ true → ⊥
+cold-empty g n b t = false≢true (sym (holds-invalid b) ∙ (rw (slot-cold g n) at t))
+
+cold-lawful : (g : Settings) → Lawful g (coldDirectory g)
+unfolding coldDirectory
+cold-lawful g =
     record {
-      slots = size-cold;
+      chosen = refl;
+      slots = size-cold g;
+      placed = λ n b t. absurd (cold-empty g n b t);
+      lone = λ n j b e t. absurd (cold-empty g j b t);
+      kinds = λ n b e. absurd (cold-empty g n b (modified-holds _ b e));
+    }
+
+pub cold-keeps : (g : Settings) (m : List ℕ) → length m ≡ 2048 → Inv (atFirst g m) (coldDirectory g) m (replicate 2048 0)
+unfolding atFirst
+cold-keeps g m h =
+    record {
+      lawful = cold-lawful g;
       memory = h;
       store = length-replicate {A = ℕ} 2048 0;
-      placed = λ n b t. absurd (empty n b t);
-      lone = λ n j b e t. absurd (empty j b t);
-      copy = λ n b t. absurd (empty n b t);
+      copy = λ n b t. absurd (cold-empty g n b t);
       home = λ b l f. refl;
-      under = λ n b e. absurd (invalid≢modified b (sym (slot-cold n) ∙ e));
+      under = λ n b e. absurd (cold-empty g n b (modified-holds _ b e));
     }
-  where
-    empty : (n b : ℕ) → holds (slotAt coldDirectory n) b ≡ true → ⊥
-    empty n b t = false≢true (sym (holds-invalid b) ∙ (rw (slot-cold n) at t))
 
-start-keeps : (m : List ℕ) (s : Start) (k k′ : List ℕ) → Started m k s k′ → s .refusal ≡ 0 → Inv (atFirst m) (s .directory) m k′
-start-keeps m s k k′ h a =
-    rw (start-directory m s k k′ h a, start-cache m s k k′ h a) (cold-keeps m (start-passed m k (start-accepted m s k k′ h a) .0))
+start-keeps : (g : Settings) (m : List ℕ) (s : Start) (k k′ : List ℕ) → Started g m k s k′ → s .refusal ≡ 0 → Inv (atFirst g m) (s .directory) m k′
+start-keeps g m s k k′ h a =
+    rw (start-directory g m s k k′ h a, start-cache g m s k k′ h a) (cold-keeps g m (start-passed m k (start-accepted g m s k k′ h a) .0))
 
 -- ---- the whole session
-module _ (m : List ℕ) (s : Start) (cs : List Call) (rs : List Answer) (d′ : Directory) (m′ k′ : List ℕ) (h : Session m s cs rs d′ m′ k′) where
-  first : Inv (atFirst m) (s .directory) m (h .cleared)
-  first = start-keeps m s (h .lent) (h .cleared) (h .started) (h .accepts)
+module _
+    (g : Settings) (m : List ℕ) (s : Start) (cs : List Call) (rs : List Answer) (d′ : Directory) (m′ k′ : List ℕ)
+    (h : Session g m s cs rs d′ m′ k′)
+  where
+    first : Inv (atFirst g m) (s .directory) m (h .cleared)
+    first = start-keeps g m s (h .lent) (h .cleared) (h .started) (h .accepts)
 
-  -- with weight 2
-  whole : Over 2 (atFirst m) (s .directory) cs rs d′ m′ k′
-  whole = run 2 (omega arith) (atFirst m) (s .directory) m (h .cleared) cs rs d′ m′ k′ first (h .ran)
+    -- with weight 2
+    whole : Over 2 (atFirst g m) (s .directory) cs rs d′ m′ k′
+    whole = run 2 (omega arith) (atFirst g m) (s .directory) m (h .cleared) cs rs d′ m′ k′ first (h .ran)
 
-  no-debt : debt 2 (s .directory) ≡ 0
-  no-debt = rw (start-directory m s (h .lent) (h .cleared) (h .started) (h .accepts)) (debt-cold 2)
+    no-debt : debt 2 (s .directory) ≡ 0
+    no-debt = rw (start-directory g m s (h .lent) (h .cleared) (h .started) (h .accepts)) (debt-cold 2 g)
 
 -- the charges with weight 2 are one for a load and three for a store
 charge-two : (c : Call) → charge 2 c ≡ isLoad c + 3 * isStore c
@@ -84,15 +97,23 @@ charges (c ∷ cs) = go (plainAccepts c) (charges cs)
     go false r = omega arith
 
 -- ---- demand 3
+each-map : (P Q : Answer → Type 0) → ((r : Answer) → P r → Q r) → (rs : List Answer) → Each P rs → Each Q rs
+unfolding Each
+each-map P Q f [] h = tt
+each-map P Q f (r ∷ rs) h = (f r (h .0), each-map P Q f rs (h .1))
+
 pub demand3 : Demand3Holds
 unfolding Demand3Holds loads stores atFirst
-demand3 m s cs rs d′ m′ k′ h =
-    let o : Over 2 (atFirst m) (s .directory) cs rs d′ m′ k′ = whole m s cs rs d′ m′ k′ h in
+demand3 g m s cs rs d′ m′ k′ h =
+    let o : Over 2 (atFirst g m) (s .directory) cs rs d′ m′ k′ = whole g m s cs rs d′ m′ k′ h in
+    let i : Lawful g (s .directory) = first g m s cs rs d′ m′ k′ h .lawful in
     record {
       plain = o .says;
-      exclusiveFirst = inv-exclusive (atFirst m) (s .directory) m (h .cleared) (first m s cs rs d′ m′ k′ h);
-      exclusive = o .exclusive;
-      bill = omega (arith, o .cost, no-debt m s cs rs d′ m′ k′ h, charges cs);
+      exclusiveFirst = lawful-exclusive g (s .directory) i;
+      exclusive = each-map _ _ (λ r l. lawful-exclusive g (r .directory) l) rs (o .lawful);
+      chosenFirst = i .chosen;
+      chosen = each-map _ _ (λ r l. l .chosen) rs (o .lawful);
+      bill = omega (arith, o .cost, no-debt g m s cs rs d′ m′ k′ h, charges cs);
     }
 
 -- ---- peek
@@ -112,19 +133,19 @@ pub peek-plain : (p : Beside) (d : Directory) (m k : List ℕ) (b : ℕ) → b �
 unfolding peeked
 peek-plain p d m k b l i =
     let a : peekRefusal d m k b ≡ 0 =
-    peek-tests d m k b ∙ rw (sized-true m k (i .memory) (i .store), inv-sound p d m k i, block-true b l) refl in
+    peek-tests d m k b ∙ rw (sized-true m k (i .memory) (i .store), lawful-sound (p .settings) d (i .lawful), block-true b l) refl in
     record { accepts = a; shows = rw (eq-eqb (peekRefusal d m k b) 0 a) (newest-plain p d m k b (omega arith) i) }
 
 pub peek-shows-plain : PeekShowsPlain
 unfolding PeekShowsPlain besideAfterAll atFirst
-peek-shows-plain m s cs rs d′ m′ k′ h b l =
-    peek-plain (besideAfterAll (s .directory) (atFirst m) cs rs) d′ m′ k′ b l (whole m s cs rs d′ m′ k′ h .keeps)
+peek-shows-plain g m s cs rs d′ m′ k′ h b l =
+    peek-plain (besideAfterAll (s .directory) (atFirst g m) cs rs) d′ m′ k′ b l (whole g m s cs rs d′ m′ k′ h .keeps)
 
 -- ---- memory under an EM block
 pub snapshots : Snapshots
 unfolding Snapshots besideAfterAll atFirst
-snapshots m s cs rs d′ m′ k′ h b l =
-    let i : Inv (besideAfterAll (s .directory) (atFirst m) cs rs) d′ m′ k′ = whole m s cs rs d′ m′ k′ h .keeps in
+snapshots g m s cs rs d′ m′ k′ h b l =
+    let i : Inv (besideAfterAll (s .directory) (atFirst g m) cs rs) d′ m′ k′ = whole g m s cs rs d′ m′ k′ h .keeps in
     record {
       free = λ f. i .home b (omega arith) (none-em _ d′ m′ k′ b i f);
       under = λ u v e. i .under (place u b) b e;

@@ -7,6 +7,7 @@ use lib.ListN.{length, getD, set, replicate}
 use Rattle.coherence.specs.declared.Slot.{Slot}
 use Rattle.coherence.specs.declared.Slot.the-variants.{Invalid, Shared, Modified}
 use Rattle.coherence.specs.declared.Entry.{Entry}
+use Rattle.coherence.specs.declared.Settings.{Settings}
 use Rattle.coherence.specs.declared.Directory.{Directory}
 use Rattle.coherence.specs.Slots.{emptyEntry, slotAt, setSlot, coldDirectory}
 use Rattle.coherence.proofs.SlotLaws.{size}
@@ -43,6 +44,6 @@ unfolding weights
 weights-empty e zero = refl
 weights-empty e (suc n) = let r : weights e (replicate n emptyEntry) ≡ 0 = weights-empty e n in omega arith
 
-pub debt-cold : (e : ℕ) → debt e coldDirectory ≡ 0
+pub debt-cold : (e : ℕ) (g : Settings) → debt e (coldDirectory g) ≡ 0
 unfolding debt coldDirectory
-debt-cold e = weights-empty e 64
+debt-cold e g = weights-empty e 64

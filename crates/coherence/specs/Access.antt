@@ -1,16 +1,17 @@
--- Document 01, "What an access does": bus actions on the directory and the two stores, each with the orders that it gives, and loads, stores
--- and flushes made of them. Unit u, block b, slot b mod 16.
+-- Document 01, "What an access does", with document 02, T-05: bus actions on the directory and the two stores, each with the orders that it gives,
+-- and loads, stores and flushes made of them. Unit u, block b, slot b mod 16.
 use Prim.Native.Nat.{ℕ, _+_, _*_, _/_, _%_}
 use mathlib.Core.Bool.{Bool, true, false, cond, not, _&&_}
 use mathlib.Core.List.{List, [], _∷_, _++_}
 use lib.Dec.{ltb, eqb}
 use Rattle.order.specs.declared.Command.{Command}
-use Rattle.order.specs.declared.Command.the-variants.{Read, ModifiedRead, Invalidate, Copyback}
+use Rattle.order.specs.declared.Command.the-variants.{Read, ModifiedRead, Invalidate, Copyback, MemoryWrite}
 use Rattle.order.specs.declared.Order.{Order}
 use Rattle.coherence.specs.declared.Slot.{Slot}
 use Rattle.coherence.specs.declared.Slot.the-variants.{Invalid, Shared, Modified}
 use Rattle.coherence.specs.declared.Directory.{Directory}
 use Rattle.coherence.specs.Bytes.{blockAt, putBlock, putWord}
+use Rattle.coherence.specs.Settings.{through}
 use Rattle.coherence.specs.Slots.{place, slotAt, setSlot, holds, modified, ownerOf}
 
 -- the machine in the middle of a call, with the orders that the call has given so far
@@ -65,7 +66,7 @@ empty u n w = emptied u n (slotAt (w .directory) n) w
 unfoldable pub yield : ℕ → Command → ℕ → ℕ → Run → Run
 yield u k b v w = cond (ltb v 4) (copyback v (place v b) b (give u k b true w)) w
 
--- "and u gives the same order again, not retried": unit u's order k for block b, which u does not hold
+-- "and u gives the same order again, not retried": unit u's order k for block b, which u does not have EM
 unfoldable pub ask : ℕ → Command → ℕ → Run → Run
 ask u k b w = give u k b false (yield u k b (ownerOf (w .directory) b) w)
 
@@ -99,7 +100,7 @@ claim u b w = mark (place u b) (Modified b) (eachUnit (expel u b) w)
 unfoldable pub cachePlace : ℕ → ℕ → ℕ
 cachePlace u a = 32 * place u (a / 32) + a % 32
 
--- "A store writes its word in u's cache only."
+-- "A store writes its word in u's cache only": a copyback board's store
 unfoldable pub write : ℕ → ℕ → ℕ → Run → Run
 write u a v w =
     record {
@@ -125,8 +126,24 @@ own u b w =
     (give u Invalidate b false w)
     (fetch u ModifiedRead b w)))
 
+-- "then memory and its own held copy take the word"
+unfoldable pub writeThrough : ℕ → ℕ → ℕ → Run → Run
+writeThrough u a v w =
+    record {
+      directory = w .directory;
+      memory = putWord (w .memory) a v;
+      cache = cond (holds (slotAt (w .directory) (place u (a / 32))) (a / 32)) (write u a v w .cache) (w .cache);
+      orders = w .orders;
+    }
+
+-- T-05: "Its store gives order memory write, .. retried like a read when another unit is EM; then memory and its own held copy take the word and all
+-- other holders become I. A miss on its store changes none of its slots."
+unfoldable pub storeThrough : ℕ → ℕ → ℕ → Run → Run
+storeThrough u a v w = writeThrough u a v (eachUnit (expel u (a / 32)) (ask u MemoryWrite (a / 32) w))
+
+-- a store, as unit u's board is write-through or copyback
 unfoldable pub store : ℕ → ℕ → ℕ → Run → Run
-store u a v w = write u a v (own u (a / 32) w)
+store u a v w = cond (through (w .directory .settings) u) (storeThrough u a v w) (write u a v (own u (a / 32) w))
 
 -- "Flush: EM gives a copyback; a held slot becomes I. Not held: accepted, no orders."
 unfoldable pub flush : ℕ → ℕ → Run → Run

@@ -1,33 +1,46 @@
--- Each case of document 01's "What an access does" once, on one slot of the four units, with all that the call answers and leaves: orders, value, slots and
--- bytes written out. Peek and cold start likewise. Each is a computation on the definitions that the contracts cite.
+-- Each case of document 01's "What an access does" and of document 02's T-05 once, on one slot of the four units, with all that the call answers and leaves:
+-- orders, value, slots and bytes written out. Peek and cold start likewise. Each is a computation on the definitions that the contracts cite.
 use Prim.Native.Nat.{ℕ, _*_}
 use mathlib.Core.Path.{_≡_}
 use mathlib.Core.Bool.{true, false}
 use mathlib.Core.List.{List, [], _∷_, _++_}
 use lib.ListN.{drop, replicate}
-use Rattle.order.specs.declared.Command.the-variants.{Read, ModifiedRead, Invalidate, Copyback}
+use Rattle.order.specs.declared.Command.the-variants.{Read, ModifiedRead, Invalidate, Copyback, MemoryWrite}
 use Rattle.order.specs.declared.Order.{Order}
 use Rattle.coherence.specs.declared.Call.{Call}
 use Rattle.coherence.specs.declared.Call.the-variants.{Load, Store, Flush}
 use Rattle.coherence.specs.declared.Slot.{Slot}
 use Rattle.coherence.specs.declared.Slot.the-variants.{Invalid, Shared, Modified}
+use Rattle.coherence.specs.declared.Settings.{Settings}
 use Rattle.coherence.specs.declared.Directory.{Directory}
+use Rattle.coherence.specs.Settings.{copybackBoard, throughBoard, drillSettings}
 use Rattle.coherence.specs.Slots.{emptyEntry}
-use Rattle.coherence.specs.Calls.{answer, memoryAfter, cacheAfter, startAnswer, cacheStarted}
+use Rattle.coherence.specs.Calls.{answer, startAnswer, cacheStarted}
 use Rattle.coherence.specs.Peek.{peeked, peekFromCache, peekOffset}
-use Rattle.coherence.specs.Sentences.{by}
-use Rattle.coherence.specs.Demand3.{ordersIn}
+use Rattle.coherence.specs.Sentences.{by, left}
 
 -- slot 2 of units 0 to 3, all other slots invalid
-unfoldable pub slotTwo : Slot → Slot → Slot → Slot → Directory
-slotTwo a b c e =
+unfoldable pub slotTwoOf : Settings → Slot → Slot → Slot → Slot → Directory
+slotTwoOf g a b c e =
     record {
       slots =
           replicate 2 emptyEntry ++ (record { slot = a } ∷ replicate 15 emptyEntry)
           ++ (record { slot = b } ∷ replicate 15 emptyEntry)
           ++ (record { slot = c } ∷ replicate 15 emptyEntry)
           ++ (record { slot = e } ∷ replicate 13 emptyEntry);
+      settings = g;
     }
+
+-- on copyback boards
+unfoldable pub slotTwo : Slot → Slot → Slot → Slot → Directory
+slotTwo a b c e = slotTwoOf drillSettings a b c e
+
+-- unit 1, which calls, has a write-through board, and unit 3 too
+unfoldable pub mixedSettings : Settings
+mixedSettings = record { boards = copybackBoard ∷ throughBoard ∷ copybackBoard ∷ throughBoard ∷ [] }
+
+unfoldable pub mixedTwo : Slot → Slot → Slot → Slot → Directory
+mixedTwo a b c e = slotTwoOf mixedSettings a b c e
 
 -- memory has 7 in every byte; the caches of units 0 to 3 have 10, 11, 12 and 13
 unfoldable pub sevens : List ℕ
@@ -48,6 +61,10 @@ withSlot x = replicate 64 11 ++ x ++ replicate 416 11
 unfoldable pub withBlock : ℕ → ℕ → ℕ → List ℕ
 withBlock b x c = replicate (32 * b) 7 ++ replicate 32 x ++ replicate (32 * c) 7
 
+-- memory, its block 2 being x
+unfoldable pub withBlockTwo : List ℕ → List ℕ
+withBlockTwo x = replicate 64 7 ++ x ++ replicate 1952 7
+
 -- 32 bytes x, but the word 300 at byte 8
 unfoldable pub withWord : ℕ → List ℕ
 withWord x = replicate 8 x ++ (0 ∷ 0 ∷ 1 ∷ 44 ∷ replicate 20 x)
@@ -56,19 +73,13 @@ withWord x = replicate 8 x ++ (0 ∷ 0 ∷ 1 ∷ 44 ∷ replicate 20 x)
 pub record Row (d : Directory) (c : Call) (n : ℕ) (os : List Order) (e : Directory) (m k : List ℕ) : Type 0 where
   pub accepts : answer d sevens (caches elevens) c .refusal ≡ 0
   pub value : answer d sevens (caches elevens) c .value ≡ n
-  pub orders : ordersIn (answer d sevens (caches elevens) c) ≡ os
-  pub directory : answer d sevens (caches elevens) c .directory ≡ e
-  pub memory : memoryAfter d sevens (caches elevens) c ≡ m
-  pub cache : cacheAfter d sevens (caches elevens) c ≡ caches k
+  pub leaves : left d sevens (caches elevens) c ≡ record { directory = e; memory = m; cache = caches k; orders = os }
 
 -- the call c refused with number n: "no orders, .. every other number 0 .., and leaves directory, .. stores .. unchanged"
 pub record RefusedRow (d : Directory) (c : Call) (n : ℕ) : Type 0 where
   pub refused : answer d sevens (caches elevens) c .refusal ≡ n
   pub value : answer d sevens (caches elevens) c .value ≡ 0
-  pub orders : ordersIn (answer d sevens (caches elevens) c) ≡ []
-  pub directory : answer d sevens (caches elevens) c .directory ≡ d
-  pub memory : memoryAfter d sevens (caches elevens) c ≡ sevens
-  pub cache : cacheAfter d sevens (caches elevens) c ≡ caches elevens
+  pub leaves : left d sevens (caches elevens) c ≡ record { directory = d; memory = sevens; cache = caches elevens; orders = [] }
 
 -- unit 1 calls; address 72 is byte 8 of block 2, and blocks 18 and 34 have the same slot
 pub record Rows : Type 0 where
@@ -128,6 +139,30 @@ pub record Rows : Type 0 where
   pub noUnit : RefusedRow (slotTwo Invalid (Shared 2) Invalid Invalid) (Load 4 74) 3
   pub badAddress : RefusedRow (slotTwo Invalid (Modified 2) Invalid Invalid) (Store 1 74 300) 4
 
+-- T-05: unit 1 has a write-through board
+pub record ThroughRows : Type 0 where
+  -- "Its store gives order memory write, command 4 ..; then memory and its own held copy take the word"
+  pub storeHit : Row (mixedTwo (Shared 18) (Shared 2) (Modified 34) Invalid) (Store 1 72 300) 0
+      (by 1 MemoryWrite 2 false ∷ [])
+      (mixedTwo (Shared 18) (Shared 2) (Modified 34) Invalid) (withBlockTwo (withWord 7)) (withSlot (withWord 11))
+  -- "A miss on its store changes none of its slots."
+  pub storeMiss : Row (mixedTwo Invalid (Shared 18) Invalid (Shared 18)) (Store 1 72 300) 0
+      (by 1 MemoryWrite 2 false ∷ [])
+      (mixedTwo Invalid (Shared 18) Invalid (Shared 18)) (withBlockTwo (withWord 7)) elevens
+  -- "retried like a read when another unit is EM; .. and all other holders become I"
+  pub storeRetried : Row (mixedTwo (Modified 2) (Shared 34) (Modified 18) Invalid) (Store 1 72 300) 0
+      (by 1 MemoryWrite 2 true ∷ by 0 Copyback 2 false ∷ by 1 MemoryWrite 2 false ∷ [])
+      (mixedTwo Invalid (Shared 34) (Modified 18) Invalid) (withBlockTwo (withWord 10)) elevens
+  pub storeShared : Row (mixedTwo (Shared 2) (Shared 2) (Shared 18) (Shared 2)) (Store 1 72 300) 0
+      (by 1 MemoryWrite 2 false ∷ [])
+      (mixedTwo Invalid (Shared 2) (Shared 18) Invalid) (withBlockTwo (withWord 7)) (withSlot (withWord 11))
+  -- "Loads are as before."
+  pub loadRetried : Row (mixedTwo (Modified 2) (Shared 34) (Modified 18) Invalid) (Load 1 72) 168430090
+      (by 1 Read 2 true ∷ by 0 Copyback 2 false ∷ by 1 Read 2 false ∷ [])
+      (mixedTwo (Shared 2) (Shared 2) (Modified 18) Invalid) (withBlock 2 10 61) (withSlot (replicate 32 10))
+  -- "Refusals: 2 also for a write-through unit with an EM slot": unit 3's, before 3 and 4
+  pub broken : RefusedRow (mixedTwo Invalid Invalid Invalid (Modified 2)) (Load 4 74) 2
+
 -- "from the cache store where some unit has it EM, and from memory in every other case", "those bytes themselves"
 pub record Peeks : Type 0 where
   pub shared : peeked (slotTwo Invalid (Shared 2) (Modified 18) Invalid) sevens (caches elevens) 2 ≡ replicate 32 7
@@ -137,16 +172,18 @@ pub record Peeks : Type 0 where
   pub modifiedFromCache : peekFromCache (slotTwo Invalid (Shared 2) (Modified 18) Invalid) sevens (caches elevens) 18 ≡ true
   pub modifiedOffset : peekOffset (slotTwo Invalid (Shared 2) (Modified 18) Invalid) sevens (caches elevens) 18 ≡ 1088
 
--- "all slots invalid, cache store all zeros"; "Cold start tests 1 alone; refused, its directory is all invalid", "and leaves .. stores .. unchanged"
+-- "all slots invalid, cache store all zeros"; "Cold start tests 1 alone; refused, its directory is all invalid", "and leaves .. stores .. unchanged"; "a kind
+-- for each unit, chosen at cold start (a refused one's directory holds the chosen kinds too)"
 pub record Starts : Type 0 where
   pub cache : cacheStarted sevens (caches elevens) ≡ replicate 2048 0
-  pub directory : startAnswer sevens (caches elevens) .directory ≡ slotTwo Invalid Invalid Invalid Invalid
-  pub shortMemory : startAnswer (drop 1 sevens) (caches elevens) .refusal ≡ 1
-  pub shortMemoryDirectory : startAnswer (drop 1 sevens) (caches elevens) .directory ≡ slotTwo Invalid Invalid Invalid Invalid
+  pub directory : startAnswer mixedSettings sevens (caches elevens) .directory ≡ mixedTwo Invalid Invalid Invalid Invalid
+  pub shortMemory : startAnswer mixedSettings (drop 1 sevens) (caches elevens) .refusal ≡ 1
+  pub shortMemoryDirectory : startAnswer mixedSettings (drop 1 sevens) (caches elevens) .directory ≡ mixedTwo Invalid Invalid Invalid Invalid
   pub shortMemoryCache : cacheStarted (drop 1 sevens) (caches elevens) ≡ caches elevens
   pub shortCache : cacheStarted sevens (drop 1 (caches elevens)) ≡ drop 1 (caches elevens)
 
 pub record AccessRows : Type 0 where
   pub rows : Rows
+  pub throughRows : ThroughRows
   pub peeks : Peeks
   pub starts : Starts

@@ -8,6 +8,7 @@ use lib.Dec.{eqb}
 use Rattle.order.specs.Refusal.{accepted}
 use Rattle.order.specs.declared.Command.the-variants.{Read}
 use Rattle.order.specs.declared.Order.{Order}
+use Rattle.coherence.specs.declared.Settings.{Settings}
 use Rattle.coherence.specs.declared.Directory.{Directory}
 use Rattle.coherence.specs.declared.Call.{Call}
 use Rattle.coherence.specs.declared.Call.the-variants.{Load, Store, Flush}
@@ -80,9 +81,9 @@ memoryAfter d m k c = after d m k c .memory
 unfoldable pub cacheAfter : Directory → List ℕ → List ℕ → Call → List ℕ
 cacheAfter d m k c = after d m k c .cache
 
--- "Cold start tests 1 alone; refused, its directory is all invalid": it is all invalid either way
-unfoldable pub startAnswer : List ℕ → List ℕ → Start
-startAnswer m k = record { refusal = startRefusal m k; directory = coldDirectory }
+-- "Cold start tests 1 alone; refused, its directory is all invalid", and it "holds the chosen kinds too": it is the same either way
+unfoldable pub startAnswer : Settings → List ℕ → List ℕ → Start
+startAnswer g m k = record { refusal = startRefusal m k; directory = coldDirectory g }
 
 -- "cache store all zeros, memory as lent"; a refused cold start leaves both as they were
 unfoldable pub cacheStarted : List ℕ → List ℕ → List ℕ
@@ -101,9 +102,9 @@ unfoldable pub afterAll : Directory → List ℕ → List ℕ → List Call → 
 afterAll d m k [] = ready d m k
 afterAll d m k (c ∷ cs) = afterAll (answer d m k c .directory) (memoryAfter d m k c) (cacheAfter d m k c) cs
 
--- the same after an accepted cold start on the memory store m
-unfoldable pub answersCold : List ℕ → List Call → List Answer
-answersCold m cs = answers coldDirectory m (replicate storeSize 0) cs
+-- the same after an accepted cold start with the settings g on the memory store m
+unfoldable pub answersCold : Settings → List ℕ → List Call → List Answer
+answersCold g m cs = answers (coldDirectory g) m (replicate storeSize 0) cs
 
-unfoldable pub afterCold : List ℕ → List Call → Run
-afterCold m cs = afterAll coldDirectory m (replicate storeSize 0) cs
+unfoldable pub afterCold : Settings → List ℕ → List Call → Run
+afterCold g m cs = afterAll (coldDirectory g) m (replicate storeSize 0) cs

@@ -1,5 +1,5 @@
 -- Demand 3 as one claim about a whole list of calls (document 01, "One list of calls, for demand 3"), and what goes with it. It speaks of any
--- answers that meet the contracts of cold start and of the calls.
+-- settings, and of any answers that meet the contracts of cold start and of the calls.
 use Prim.Native.Nat.{ℕ, _+_, _*_, _≤_}
 use mathlib.Core.Path.{_≡_}
 use mathlib.Core.Bool.{cond}
@@ -8,6 +8,7 @@ use lib.ListN.{length, take}
 use lib.Dec.{eqb}
 use Rattle.order.specs.Refusal.{accepted}
 use Rattle.order.specs.declared.Order.{Order}
+use Rattle.coherence.specs.declared.Settings.{Settings}
 use Rattle.coherence.specs.declared.Directory.{Directory}
 use Rattle.coherence.specs.declared.Call.{Call}
 use Rattle.coherence.specs.declared.Call.the-variants.{Load, Store, Flush}
@@ -22,9 +23,9 @@ use Rattle.coherence.specs.PlainMemory.{Reply, plainAccepts, plainReplie
 
 -- ---- what was run
 
--- the contract of a cold start on the stores m and k: it answers s and leaves the cache store k′
-pub record Started (m k : List ℕ) (s : Start) (k′ : List ℕ) : Type 0 where
-  pub answers : s ≡ startAnswer m k
+-- the contract of a cold start with the settings g on the stores m and k: it answers s and leaves the cache store k′
+pub record Started (g : Settings) (m k : List ℕ) (s : Start) (k′ : List ℕ) : Type 0 where
+  pub answers : s ≡ startAnswer g m k
   pub cache : k′ ≡ cacheStarted m k
 
 -- the contract of the call c, given the directory d and the stores m and k: it answers r and leaves the stores m′ and k′
@@ -42,12 +43,13 @@ Ran d m k (c ∷ cs) [] e m′ k′ = ⊥
 Ran d m k (c ∷ cs) (r ∷ rs) e m′ k′ =
     (m₁ : List ℕ) × (k₁ : List ℕ) × Answered d m k c r m₁ k₁ × Ran (r .directory) m₁ k₁ cs rs e m′ k′
 
--- "After an accepted cold start comes any list, the empty one too, of loads, stores and flushes": one such run, from the memory store m
-pub record Session (m : List ℕ) (s : Start) (cs : List Call) (rs : List Answer) (e : Directory) (m′ k′ : List ℕ) : Type 0 where
+-- "After an accepted cold start comes any list, the empty one too, of loads, stores and flushes": one such run, with the settings g from the memory
+-- store m
+pub record Session (g : Settings) (m : List ℕ) (s : Start) (cs : List Call) (rs : List Answer) (e : Directory) (m′ k′ : List ℕ) : Type 0 where
   -- the cache store before the cold start and after it
   pub lent : List ℕ
   pub cleared : List ℕ
-  pub started : Started m lent s cleared
+  pub started : Started g m lent s cleared
   pub accepts : s .refusal ≡ accepted
   pub ran : Ran (s .directory) m cleared cs rs e m′ k′
 
@@ -93,28 +95,32 @@ unfoldable pub Each : (Answer → Type 0) → List Answer → Type 0
 Each P [] = Unit {0}
 Each P (r ∷ rs) = P r × Each P rs
 
-pub record Demand3 (m : List ℕ) (s : Start) (cs : List Call) (rs : List Answer) : Type 0 where
+pub record Demand3 (g : Settings) (m : List ℕ) (s : Start) (cs : List Call) (rs : List Answer) : Type 0 where
   -- "The machine accepts exactly the same calls of the list, and each accepted load answers this memory's number."
   pub plain : map reply rs ≡ plainReplies m cs
   -- "A block that is EM in one unit is valid in no other", "in the directory that cold start or the call left"
   pub exclusiveFirst : Exclusive (s .directory)
   pub exclusive : Each (λ r. Exclusive (r .directory)) rs
+  -- the settings are the chosen ones at first and stay so
+  pub chosenFirst : s .directory .settings ≡ g
+  pub chosen : Each (λ r. r .directory .settings ≡ g) rs
   -- the bill: the orders in the answers are at most one for each accepted load and three for each accepted store
   pub bill : ordersGiven rs ≤ loads cs + 3 * stores cs
 
 -- demand 3, of every session
 unfoldable pub Demand3Holds : Type 0
 Demand3Holds =
-    (m : List ℕ) (s : Start) (cs : List Call) (rs : List Answer) (e : Directory) (m′ k′ : List ℕ)
-    → Session m s cs rs e m′ k′ → Demand3 m s cs rs
+    (g : Settings) (m : List ℕ) (s : Start) (cs : List Call) (rs : List Answer) (e : Directory) (m′ k′ : List ℕ)
+    → Session g m s cs rs e m′ k′ → Demand3 g m s cs rs
 
 -- ---- beside it
 
--- the claim is about something: every memory store of 2,048 bytes and every list of calls has its session, and its answers are these alone
-pub record Sessions (m : List ℕ) (cs : List Call) : Type 0 where
+-- the claim is about something: all settings, every memory store of 2,048 bytes and every list of calls have their session, and its answers are these
+-- alone
+pub record Sessions (g : Settings) (m : List ℕ) (cs : List Call) : Type 0 where
   pub some : (k : List ℕ) → length m ≡ storeSize → length k ≡ storeSize
-      → Session m (startAnswer m k) cs (answersCold m cs) (afterCold m cs .directory) (afterCold m cs .memory) (afterCold m cs .cache)
-  pub one : (s : Start) (rs : List Answer) (e : Directory) (m′ k′ : List ℕ) → Session m s cs rs e m′ k′ → rs ≡ answersCold m cs
+      → Session g m (startAnswer g m k) cs (answersCold g m cs) (afterCold g m cs .directory) (afterCold g m cs .memory) (afterCold g m cs .cache)
+  pub one : (s : Start) (rs : List Answer) (e : Directory) (m′ k′ : List ℕ) → Session g m s cs rs e m′ k′ → rs ≡ answersCold g m cs
 
 -- "Each call answers with its orders in sequence, at most four": the orders in the answer are those that the access rules give the call
 pub record AnswersOrders (d : Directory) (m k : List ℕ) (c : Call) : Type 0 where
@@ -137,5 +143,5 @@ pub record PeekPlain (p : List ℕ) (e : Directory) (m k : List ℕ) (b : ℕ) :
 
 unfoldable pub PeekShowsPlain : Type 0
 PeekShowsPlain =
-    (m : List ℕ) (s : Start) (cs : List Call) (rs : List Answer) (e : Directory) (m′ k′ : List ℕ)
-    → Session m s cs rs e m′ k′ → (b : ℕ) → b ≤ 63 → PeekPlain (plainAfterAll m cs) e m′ k′ b
+    (g : Settings) (m : List ℕ) (s : Start) (cs : List Call) (rs : List Answer) (e : Directory) (m′ k′ : List ℕ)
+    → Session g m s cs rs e m′ k′ → (b : ℕ) → b ≤ 63 → PeekPlain (plainAfterAll m cs) e m′ k′ b

@@ -1,5 +1,6 @@
 -- Document 01's values, with the cold start on zero memory: the drill's six calls, P11, one answer with all four orders, a stored word byte by byte,
--- and the boundaries of the tests; and a few runs that a careless rule would get wrong. Each is a computation on the definitions.
+-- and the boundaries of the tests; a write-through board among copyback boards; and a few runs that a careless rule would get wrong. Each is a
+-- computation on the definitions.
 use Prim.Native.Nat.{ℕ, _+_, _*_}
 use mathlib.Core.Path.{_≡_}
 use mathlib.Core.Bool.{true, false}
@@ -11,12 +12,14 @@ use Rattle.coherence.specs.declared.Call.the-variants.{Load, Store, Flus
 use Rattle.coherence.specs.declared.Answer.{Answer}
 use Rattle.coherence.specs.declared.Slot.the-variants.{Invalid, Shared, Modified}
 use Rattle.coherence.specs.Bytes.{storeSize, blockAt}
+use Rattle.coherence.specs.Settings.{drillSettings}
 use Rattle.coherence.specs.Slots.{setSlot, stateNumber, sound, coldDirectory}
 use Rattle.coherence.specs.Refusal.{startRefusal, peekRefusal}
 use Rattle.coherence.specs.Calls.{answersCold, afterCold}
 use Rattle.coherence.specs.Peek.{peeked}
 use Rattle.coherence.specs.PlainMemory.{plainAccepts}
 use Rattle.coherence.specs.Snapshot.{takenAfterAll}
+use Rattle.coherence.specs.AccessRows.{mixedSettings}
 use Rattle.coherence.specs.Demand3.{ordersIn, ordersGiven, loads, stores}
 
 unfoldable pub zeros : List ℕ
@@ -32,14 +35,14 @@ valueAndOrders r = (r .value, length (ordersIn r))
 
 pub record Drill : Type 0 where
   -- the loaded values and the orders of each call, as the drill prints them; a store's and a flush's value is 0
-  pub lines : map valueAndOrders (answersCold zeros drillCalls) ≡ (0, 1) ∷ (9, 3) ∷ (0, 1) ∷ (0, 1) ∷ (0, 2) ∷ (0, 0) ∷ []
+  pub lines : map valueAndOrders (answersCold drillSettings zeros drillCalls) ≡ (0, 1) ∷ (9, 3) ∷ (0, 1) ∷ (0, 1) ∷ (0, 2) ∷ (0, 0) ∷ []
   -- "total 6 calls 8 orders"
-  pub total : ordersGiven (answersCold zeros drillCalls) ≡ 8
+  pub total : ordersGiven (answersCold drillSettings zeros drillCalls) ≡ 8
 
 -- "P11 the first two drill calls: four orders, exactly one load plus three times one store"
 pub record P11 : Type 0 where
-  pub exactly : ordersGiven (answersCold zeros (take 2 drillCalls)) ≡ loads (take 2 drillCalls) + 3 * stores (take 2 drillCalls)
-  pub orders : ordersGiven (answersCold zeros (take 2 drillCalls)) ≡ 4
+  pub exactly : ordersGiven (answersCold drillSettings zeros (take 2 drillCalls)) ≡ loads (take 2 drillCalls) + 3 * stores (take 2 drillCalls)
+  pub orders : ordersGiven (answersCold drillSettings zeros (take 2 drillCalls)) ≡ 4
   pub loads : loads (take 2 drillCalls) ≡ 1
   pub stores : stores (take 2 drillCalls) ≡ 1
 
@@ -49,52 +52,64 @@ conflict = Store 0 72 9 ∷ Store 1 584 10 ∷ Load 1 72 ∷ []
 
 pub record FourOrders : Type 0 where
   pub orders :
-      map ordersIn (drop 2 (answersCold zeros conflict))
+      map ordersIn (drop 2 (answersCold drillSettings zeros conflict))
       ≡ (record { unit = 1; command = Copyback; block = 18; retried = false }
       ∷ record { unit = 1; command = Read; block = 2; retried = true }
       ∷ record { unit = 0; command = Copyback; block = 2; retried = false }
       ∷ record { unit = 1; command = Read; block = 2; retried = false }
       ∷ [])
       ∷ []
-  pub value : map (λ (r : Answer). r .value) (drop 2 (answersCold zeros conflict)) ≡ 9 ∷ []
+  pub value : map (λ (r : Answer). r .value) (drop 2 (answersCold drillSettings zeros conflict)) ≡ 9 ∷ []
 
 -- what peek shows after a list of calls, and block b when it was last taken
 unfoldable pub peekAfter : List Call → ℕ → List ℕ
-peekAfter cs b = peeked (afterCold zeros cs .directory) (afterCold zeros cs .memory) (afterCold zeros cs .cache) b
+peekAfter cs b = peeked (afterCold drillSettings zeros cs .directory) (afterCold drillSettings zeros cs .memory) (afterCold drillSettings zeros cs .cache) b
 
 unfoldable pub takenCold : List Call → ℕ → List ℕ
-takenCold cs b = takenAfterAll coldDirectory zeros (blockAt zeros) cs (answersCold zeros cs) b
+takenCold cs b = takenAfterAll (coldDirectory drillSettings) zeros (blockAt zeros) cs (answersCold drillSettings zeros cs) b
 
 -- "Words are 4 bytes, most significant first": unit 2 stores 300 at 72, which is byte 8 of its slot 2, and flushes block 2
 pub record StoredBytes : Type 0 where
-  pub cache : take 4 (drop 1096 (afterCold zeros (Store 2 72 300 ∷ []) .cache)) ≡ 0 ∷ 0 ∷ 1 ∷ 44 ∷ []
-  pub memory : take 4 (drop 72 (afterCold zeros (Store 2 72 300 ∷ []) .memory)) ≡ 0 ∷ 0 ∷ 0 ∷ 0 ∷ []
-  pub flushed : take 4 (drop 72 (afterCold zeros (Store 2 72 300 ∷ Flush 2 2 ∷ []) .memory)) ≡ 0 ∷ 0 ∷ 1 ∷ 44 ∷ []
+  pub cache : take 4 (drop 1096 (afterCold drillSettings zeros (Store 2 72 300 ∷ []) .cache)) ≡ 0 ∷ 0 ∷ 1 ∷ 44 ∷ []
+  pub memory : take 4 (drop 72 (afterCold drillSettings zeros (Store 2 72 300 ∷ []) .memory)) ≡ 0 ∷ 0 ∷ 0 ∷ 0 ∷ []
+  pub flushed : take 4 (drop 72 (afterCold drillSettings zeros (Store 2 72 300 ∷ Flush 2 2 ∷ []) .memory)) ≡ 0 ∷ 0 ∷ 1 ∷ 44 ∷ []
   -- peek before the flush, and after it
   pub peeked : take 4 (drop 8 (peekAfter (Store 2 72 300 ∷ []) 2)) ≡ 0 ∷ 0 ∷ 1 ∷ 44 ∷ []
   pub peekedLater : take 4 (drop 8 (peekAfter (Store 2 72 300 ∷ Flush 2 2 ∷ []) 2)) ≡ 0 ∷ 0 ∷ 1 ∷ 44 ∷ []
   -- memory under the block that unit 2 took again has what was flushed
-  pub under : take 4 (drop 72 (afterCold zeros (Store 2 72 300 ∷ Flush 2 2 ∷ Store 2 72 9 ∷ []) .memory)) ≡ 0 ∷ 0 ∷ 1 ∷ 44 ∷ []
+  pub under : take 4 (drop 72 (afterCold drillSettings zeros (Store 2 72 300 ∷ Flush 2 2 ∷ Store 2 72 9 ∷ []) .memory)) ≡ 0 ∷ 0 ∷ 1 ∷ 44 ∷ []
   pub taken : take 4 (drop 8 (takenCold (Store 2 72 300 ∷ Flush 2 2 ∷ Store 2 72 9 ∷ []) 2)) ≡ 0 ∷ 0 ∷ 1 ∷ 44 ∷ []
 
 -- "other units holding b become I": all four units read a block, unit 0 stores into it, unit 3 after it, and the others read again
 pub record Invalidations : Type 0 where
   pub lines :
-      map valueAndOrders (answersCold zeros
+      map valueAndOrders (answersCold drillSettings zeros
       (Load 0 72 ∷ Load 1 72 ∷ Load 2 72 ∷ Load 3 72 ∷ Store 0 72 9 ∷ Load 1 72 ∷ Load 2 72 ∷ Load 3 72 ∷ Store 3 72 10 ∷ Load 0 72 ∷ []))
       ≡ (0, 1) ∷ (0, 1) ∷ (0, 1) ∷ (0, 1) ∷ (0, 1) ∷ (9, 3) ∷ (9, 1) ∷ (9, 1) ∷ (0, 1) ∷ (10, 3) ∷ []
   -- "a held slot becomes I": a flushed SU block is read again
-  pub flush : map valueAndOrders (answersCold zeros (Load 0 72 ∷ Flush 0 2 ∷ Load 0 72 ∷ [])) ≡ (0, 1) ∷ (0, 0) ∷ (0, 1) ∷ []
+  pub flush : map valueAndOrders (answersCold drillSettings zeros (Load 0 72 ∷ Flush 0 2 ∷ Load 0 72 ∷ [])) ≡ (0, 1) ∷ (0, 0) ∷ (0, 1) ∷ []
 
 -- the rules of the directory: slots 3 and 51 are slot 3 of units 0 and 3
 pub record Directories : Type 0 where
-  pub bothShared : sound (setSlot (setSlot coldDirectory 3 (Shared 3)) 51 (Shared 3)) ≡ true
-  pub modifiedAndShared : sound (setSlot (setSlot coldDirectory 3 (Modified 3)) 51 (Shared 3)) ≡ false
-  pub otherBlock : sound (setSlot (setSlot coldDirectory 3 (Modified 3)) 51 (Modified 19)) ≡ true
-  pub wrongSlot : sound (setSlot coldDirectory 0 (Shared 8)) ≡ false
-  pub lastBlock : sound (setSlot coldDirectory 63 (Modified 63)) ≡ true
-  pub noBlock : sound (setSlot coldDirectory 0 (Shared 64)) ≡ false
+  pub bothShared : sound (setSlot (setSlot (coldDirectory drillSettings) 3 (Shared 3)) 51 (Shared 3)) ≡ true
+  pub modifiedAndShared : sound (setSlot (setSlot (coldDirectory drillSettings) 3 (Modified 3)) 51 (Shared 3)) ≡ false
+  pub otherBlock : sound (setSlot (setSlot (coldDirectory drillSettings) 3 (Modified 3)) 51 (Modified 19)) ≡ true
+  pub wrongSlot : sound (setSlot (coldDirectory drillSettings) 0 (Shared 8)) ≡ false
+  pub lastBlock : sound (setSlot (coldDirectory drillSettings) 63 (Modified 63)) ≡ true
+  pub noBlock : sound (setSlot (coldDirectory drillSettings) 0 (Shared 64)) ≡ false
   pub numbers : map stateNumber (Invalid ∷ Shared 9 ∷ Modified 5 ∷ []) ≡ 0 ∷ 1 ∷ 2 ∷ []
+
+-- T-05: units 1 and 3 have write-through boards, the others have copyback boards.
+-- Unit 1 stores into a block that unit 0 has EM; it reads the block, stores again into its own copy, and unit 0 reads it
+unfoldable pub mixedCalls : List Call
+mixedCalls = Store 0 72 9 ∷ Store 1 72 10 ∷ Load 1 72 ∷ Store 1 72 11 ∷ Load 1 72 ∷ Load 0 72 ∷ []
+
+pub record MixedBoards : Type 0 where
+  pub lines : map valueAndOrders (answersCold mixedSettings zeros mixedCalls) ≡ (0, 1) ∷ (0, 3) ∷ (10, 1) ∷ (0, 1) ∷ (11, 0) ∷ (11, 1) ∷ []
+  -- slots 3 and 19 are slot 3 of units 0 and 1
+  pub modified : sound (setSlot (coldDirectory mixedSettings) 19 (Modified 3)) ≡ false
+  pub shared : sound (setSlot (coldDirectory mixedSettings) 19 (Shared 3)) ≡ true
+  pub other : sound (setSlot (coldDirectory mixedSettings) 3 (Modified 3)) ≡ true
 
 -- "Addresses 2,044 and 2,048; blocks 63 and 64", and the last unit
 unfoldable pub edgeCalls : List Call
@@ -102,10 +117,10 @@ edgeCalls =
     Load 3 2044 ∷ Load 0 2048 ∷ Load 0 2 ∷ Load 4 2048 ∷ Store 3 2044 7 ∷ Store 0 2048 7 ∷ Store 4 0 7 ∷ Flush 0 63 ∷ Flush 0 64 ∷ Flush 4 64 ∷ []
 
 pub record Boundaries : Type 0 where
-  pub calls : map (λ (r : Answer). r .refusal) (answersCold zeros edgeCalls) ≡ 0 ∷ 4 ∷ 4 ∷ 3 ∷ 0 ∷ 4 ∷ 3 ∷ 0 ∷ 4 ∷ 3 ∷ []
+  pub calls : map (λ (r : Answer). r .refusal) (answersCold drillSettings zeros edgeCalls) ≡ 0 ∷ 4 ∷ 4 ∷ 3 ∷ 0 ∷ 4 ∷ 3 ∷ 0 ∷ 4 ∷ 3 ∷ []
   pub plain :
       map plainAccepts edgeCalls ≡ true ∷ false ∷ false ∷ false ∷ true ∷ false ∷ false ∷ true ∷ false ∷ false ∷ []
-  pub peeks : map (peekRefusal coldDirectory zeros zeros) (63 ∷ 64 ∷ []) ≡ 0 ∷ 4 ∷ []
+  pub peeks : map (peekRefusal (coldDirectory drillSettings) zeros zeros) (63 ∷ 64 ∷ []) ≡ 0 ∷ 4 ∷ []
   -- a store one byte short
   pub starts : startRefusal zeros zeros ∷ startRefusal zeros (drop 1 zeros) ∷ startRefusal (drop 1 zeros) zeros ∷ [] ≡ 0 ∷ 1 ∷ 1 ∷ []
 
@@ -116,4 +131,5 @@ pub record Examples : Type 0 where
   pub storedBytes : StoredBytes
   pub invalidations : Invalidations
   pub directories : Directories
+  pub mixedBoards : MixedBoards
   pub boundaries : Boundaries

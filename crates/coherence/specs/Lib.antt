@@ -1,5 +1,6 @@
 -- The cache machine: its rules, in document 01's order, and what demand 3 says of them.
 pub mod Bytes
+pub mod Settings
 pub mod Slots
 pub mod Access
 pub mod Refusal

@@ -1,4 +1,4 @@
--- Document 01, "What an access does", sentence by sentence: what an accepted call answers and leaves, for every directory and both stores. These say
+-- Document 01, "What an access does", and document 02, T-05, sentence by sentence: what an accepted call answers and leaves, for every directory and both stores. These say
 -- it by slots, literal orders and bytes, apart from the actions of `Access`. Peek and cold start likewise, refused ones too; `Demand3.Refused` is the
 -- same for refused calls.
 use Prim.Native.Nat.{ℕ, _+_, _*_, _/_, _%_, _<_}
@@ -7,10 +7,12 @@ use mathlib.Core.Bool.{Bool, true, false}
 use mathlib.Core.List.{List, [], _∷_}
 use lib.ListN.{length, replicate}
 use Rattle.order.specs.declared.Command.{Command}
-use Rattle.order.specs.declared.Command.the-variants.{Read, ModifiedRead, Invalidate, Copyback}
+use Rattle.order.specs.declared.Command.the-variants.{Read, ModifiedRead, Invalidate, Copyback, MemoryWrite}
 use Rattle.order.specs.declared.Order.{Order}
 use Rattle.coherence.specs.declared.Slot.the-variants.{Invalid, Shared, Modified}
+use Rattle.coherence.specs.declared.Settings.{Settings}
 use Rattle.coherence.specs.declared.Directory.{Directory}
+use Rattle.coherence.specs.Settings.{through}
 use Rattle.coherence.specs.declared.Call.{Call}
 use Rattle.coherence.specs.declared.Call.the-variants.{Load, Store, Flush}
 use Rattle.coherence.specs.Bytes.{blockAt, putBlock, wordAt, putWord}
@@ -79,6 +81,15 @@ pub record SlotsStored (d : Directory) (u b : ℕ) (e : Directory) : Type 0 wher
   -- and all else stays
   pub rest : (n : ℕ) → (n ≡ place u b → ⊥) → holds (slotAt d n) b ≡ false → slotAt e n ≡ slotAt d n
 
+-- the slots that a write-through unit's store leaves
+pub record SlotsThrough (d : Directory) (u b : ℕ) (e : Directory) : Type 0 where
+  -- "A miss on its store changes none of its slots", nor does a hit
+  pub own : (s : ℕ) → s < 16 → slotAt e (16 * u + s) ≡ slotAt d (16 * u + s)
+  -- "all other holders become I"
+  pub others : (v : ℕ) → v < 4 → (v ≡ u → ⊥) → holds (slotAt d (place v b)) b ≡ true → slotAt e (place v b) ≡ Invalid
+  -- and all else stays
+  pub rest : (n : ℕ) → holds (slotAt d n) b ≡ false → slotAt e n ≡ slotAt d n
+
 -- the slots that a flush of a held block leaves: "a held slot becomes I", and all else stays
 pub record SlotsFlushed (d : Directory) (u b : ℕ) (e : Directory) : Type 0 where
   pub own : slotAt e (place u b) ≡ Invalid
@@ -115,6 +126,22 @@ pub record StoreMissed (d : Directory) (m k : List ℕ) (u a v : ℕ) (w : Run) 
   -- "The block is filled from memory." "A store writes its word in u's cache only."
   pub cache : w .cache ≡ putWord (putBlock k (place u (a / 32)) (blockAt (w .memory) (a / 32))) (wordPlace u a) v
 
+-- the orders os that write-through unit u gives for its store of v at a, and the memory m′ then: "memory .. take[s] the word"
+pub record ThroughOrders (d : Directory) (m k : List ℕ) (u a v : ℕ) (os : List Order) (m′ : List ℕ) : Type 0 where
+  -- "Its store gives order memory write"
+  pub alone : NoneHasEM d (a / 32) → (os ≡ by u MemoryWrite (a / 32) false ∷ []) × (m′ ≡ putWord m a v)
+  -- "retried like a read when another unit is EM"
+  pub retried : (h : ℕ) → h < 4 → slotAt d (place h (a / 32)) ≡ Modified (a / 32)
+      → (os ≡ by u MemoryWrite (a / 32) true ∷ by h Copyback (a / 32) false ∷ by u MemoryWrite (a / 32) false ∷ [])
+      × (m′ ≡ putWord (putBlock m (a / 32) (blockAt k (place h (a / 32)))) a v)
+
+pub record StoreThrough (d : Directory) (m k : List ℕ) (u a v : ℕ) (w : Run) : Type 0 where
+  pub orders : ThroughOrders d m k u a v (w .orders) (w .memory)
+  pub slots : SlotsThrough d u (a / 32) (w .directory)
+  -- "and its own held copy take[s] the word"
+  pub held : holds (slotAt d (place u (a / 32))) (a / 32) ≡ true → w .cache ≡ putWord k (wordPlace u a) v
+  pub missed : holds (slotAt d (place u (a / 32))) (a / 32) ≡ false → w .cache ≡ k
+
 pub record FlushHeld (d : Directory) (k : List ℕ) (u b : ℕ) (os : List Order) (m′ : List ℕ) (w : Run) : Type 0 where
   pub orders : w .orders ≡ os
   pub slots : SlotsFlushed d u b (w .directory)
@@ -122,22 +149,25 @@ pub record FlushHeld (d : Directory) (k : List ℕ) (u b : ℕ) (os : List Order
   -- "its 32 bytes in the cache store stay until the next fill"
   pub cache : w .cache ≡ k
 
+-- the stores of document 01 are a copyback unit's
 pub record Sentences (d : Directory) (m k : List ℕ) : Type 0 where
   -- "Load, b held: no order."
   pub loadHeld : (u a : ℕ) → Accepted d m k (Load u a) → holds (slotAt d (place u (a / 32))) (a / 32) ≡ true
       → Leaves d m [] k (left d m k (Load u a))
   -- "Store, b EM: no order."
-  pub storeModified : (u a v : ℕ) → Accepted d m k (Store u a v) → slotAt d (place u (a / 32)) ≡ Modified (a / 32)
+  pub storeModified : (u a v : ℕ) → Accepted d m k (Store u a v) → through (d .settings) u ≡ false → slotAt d (place u (a / 32)) ≡ Modified (a / 32)
       → Leaves d m [] (putWord k (wordPlace u a) v) (left d m k (Store u a v))
   -- "Store, b SU: order invalidate; other units holding b become I; the slot becomes EM."
-  pub storeShared : (u a v : ℕ) → Accepted d m k (Store u a v) → slotAt d (place u (a / 32)) ≡ Shared (a / 32)
+  pub storeShared : (u a v : ℕ) → Accepted d m k (Store u a v) → through (d .settings) u ≡ false → slotAt d (place u (a / 32)) ≡ Shared (a / 32)
       → StoreShared d m k u a v (left d m k (Store u a v))
   -- "b not held: .. The block is filled from memory. Load: SU."
   pub loadMissed : (u a : ℕ) → Accepted d m k (Load u a) → holds (slotAt d (place u (a / 32))) (a / 32) ≡ false
       → LoadMissed d m k u (a / 32) (left d m k (Load u a))
   -- "b not held: .. Store: other holders become I, the slot becomes EM."
-  pub storeMissed : (u a v : ℕ) → Accepted d m k (Store u a v) → holds (slotAt d (place u (a / 32))) (a / 32) ≡ false
+  pub storeMissed : (u a v : ℕ) → Accepted d m k (Store u a v) → through (d .settings) u ≡ false → holds (slotAt d (place u (a / 32))) (a / 32) ≡ false
       → StoreMissed d m k u a v (left d m k (Store u a v))
+  -- T-05: a write-through unit's store
+  pub storeThrough : (u a v : ℕ) → Accepted d m k (Store u a v) → through (d .settings) u ≡ true → StoreThrough d m k u a v (left d m k (Store u a v))
   -- "Flush: EM gives a copyback; a held slot becomes I."
   pub flushModified : (u b : ℕ) → Accepted d m k (Flush u b) → slotAt d (place u b) ≡ Modified b
       → FlushHeld d k u b (by u Copyback b false ∷ []) (putBlock m b (blockAt k (place u b))) (left d m k (Flush u b))
@@ -146,6 +176,8 @@ pub record Sentences (d : Directory) (m k : List ℕ) : Type 0 where
   -- "Not held: accepted, no orders."
   pub flushOther : (u b : ℕ) → Accepted d m k (Flush u b) → holds (slotAt d (place u b)) b ≡ false
       → Leaves d m [] k (left d m k (Flush u b))
+  -- T-05: "a kind for each unit, chosen at cold start": no call changes the settings
+  pub kept : (c : Call) → answer d m k c .directory .settings ≡ d .settings
   -- the number that a load answers: the word in u's cache then; a store and a flush answer 0, by our choice
   pub loaded : (u a : ℕ) → Accepted d m k (Load u a)
       → answer d m k (Load u a) .value ≡ wordAt (cacheAfter d m k (Load u a)) (wordPlace u a)
@@ -171,13 +203,15 @@ pub record PeekSays (d : Directory) (m k : List ℕ) (b : ℕ) : Type 0 where
 unfoldable pub PeeksHold : Type 0
 PeeksHold = (d : Directory) (m k : List ℕ) (b : ℕ) → PeekSays d m k b
 
-pub record StartSays (m k : List ℕ) : Type 0 where
+pub record StartSays (g : Settings) (m k : List ℕ) : Type 0 where
   -- "all slots invalid"; "refused, its directory is all invalid"
-  pub slots : (n : ℕ) → slotAt (startAnswer m k .directory) n ≡ Invalid
+  pub slots : (n : ℕ) → slotAt (startAnswer g m k .directory) n ≡ Invalid
+  -- T-05: "chosen at cold start (a refused one's directory holds the chosen kinds too)"
+  pub settings : startAnswer g m k .directory .settings ≡ g
   -- "cache store all zeros"
-  pub accepted : length m ≡ 2048 → length k ≡ 2048 → (startAnswer m k .refusal ≡ 0) × (cacheStarted m k ≡ replicate 2048 0)
+  pub accepted : length m ≡ 2048 → length k ≡ 2048 → (startAnswer g m k .refusal ≡ 0) × (cacheStarted m k ≡ replicate 2048 0)
   -- "Cold start tests 1 alone": "memory store or cache store isn't 2,048 bytes". "A refused call .. leaves .. stores .. unchanged."
-  pub refused : (length m ≡ 2048 → length k ≡ 2048 → ⊥) → (startAnswer m k .refusal ≡ 1) × (cacheStarted m k ≡ k)
+  pub refused : (length m ≡ 2048 → length k ≡ 2048 → ⊥) → (startAnswer g m k .refusal ≡ 1) × (cacheStarted m k ≡ k)
 
 unfoldable pub StartsHold : Type 0
-StartsHold = (m k : List ℕ) → StartSays m k
+StartsHold = (g : Settings) (m k : List ℕ) → StartSays g m k

@@ -1,5 +1,5 @@
--- Document 01, "The directory": what a slot has, the rules, and the directory of a cold start. A slot has a number: slot s of unit u is
--- number 16 u + s in the directory, and the part of the cache store at 512 u + 32 s is its block 16 u + s.
+-- Document 01, "The directory", with document 02, T-05: what a slot has, the rules, and the directory of a cold start. A slot has a number: slot s of
+-- unit u is number 16 u + s in the directory, and the part of the cache store at 512 u + 32 s is its block 16 u + s.
 use Prim.Native.Nat.{ℕ, zero, suc, _+_, _*_, _/_, _%_, _≤_, _<_}
 use mathlib.Core.Path.{_≡_}
 use mathlib.Core.Bool.{Bool, true, false, cond, not, _&&_, _||_}
@@ -8,7 +8,9 @@ use lib.Dec.{leb, eqb}
 use Rattle.coherence.specs.declared.Slot.{Slot}
 use Rattle.coherence.specs.declared.Slot.the-variants.{Invalid, Shared, Modified}
 use Rattle.coherence.specs.declared.Entry.{Entry}
+use Rattle.coherence.specs.declared.Settings.{Settings}
 use Rattle.coherence.specs.declared.Directory.{Directory}
+use Rattle.coherence.specs.Settings.{through}
 
 -- "Four processors": the last has number 3
 abbrev pub lastUnit : ℕ
@@ -30,7 +32,7 @@ slotAt d n = (getD (d .slots) n emptyEntry) .slot
 
 -- slot n becomes x
 unfoldable pub setSlot : Directory → ℕ → Slot → Directory
-setSlot d n x = record { slots = set (d .slots) n (record { slot = x }) }
+setSlot d n x = record { slots = set (d .slots) n (record { slot = x }); settings = d .settings }
 
 -- the block number of a slot; "An invalid slot has block 0"
 unfoldable pub blockOf : Slot → ℕ
@@ -83,15 +85,27 @@ slotRule d n Invalid = true
 slotRule d n (Shared b) = fits n b
 slotRule d n (Modified b) = fits n b && alone d n b
 
+-- "A write-through unit is only I or SU": slot n, as it is x
+unfoldable pub kindRule : Directory → ℕ → Slot → Bool
+kindRule d n Invalid = true
+kindRule d n (Shared b) = true
+kindRule d n (Modified b) = not (through (d .settings) (n / 16))
+
+unfoldable pub soundSlots : Directory → Bool
+soundSlots d = allBelow 64 (λ n. slotRule d n (slotAt d n))
+
+unfoldable pub soundKinds : Directory → Bool
+soundKinds d = allBelow 64 (λ n. kindRule d n (slotAt d n))
+
 -- the test for refusal 2: no rule is violated
 unfoldable pub sound : Directory → Bool
-sound d = allBelow 64 (λ n. slotRule d n (slotAt d n))
+sound d = soundSlots d && soundKinds d
 
--- "Cold start: all slots invalid"
-unfoldable pub coldDirectory : Directory
-coldDirectory = record { slots = replicate 64 emptyEntry }
+-- "Cold start: all slots invalid", with the settings that were chosen
+unfoldable pub coldDirectory : Settings → Directory
+coldDirectory g = record { slots = replicate 64 emptyEntry; settings = g }
 
--- ---- the same rules in document 01's words
+-- ---- the same rules in the documents' words
 
 -- slot s of unit u
 unfoldable pub slotOf : Directory → ℕ → ℕ → Slot
@@ -109,7 +123,16 @@ pub record Rules (d : Directory) : Type 0 where
   pub placed : (u s b : ℕ) → u < 4 → s < 16 → holds (slotOf d u s) b ≡ true → (b ≤ 63) × (b % 16 ≡ s)
   pub exclusive : Exclusive d
 
--- the test passes if and only if the rules hold
+-- "A write-through unit is only I or SU."
+unfoldable pub Kinds : Directory → Type 0
+Kinds d = (u s b : ℕ) → u < 4 → s < 16 → slotOf d u s ≡ Modified b → through (d .settings) u ≡ false
+
+-- a test passes if and only if P holds
+pub record Tests (test : Bool) (P : Type 0) : Type 0 where
+  pub enough : test ≡ true → P
+  pub needed : P → test ≡ true
+
 pub record TestsRules (d : Directory) : Type 0 where
-  pub enough : sound d ≡ true → Rules d
-  pub needed : Rules d → sound d ≡ true
+  pub slots : Tests (soundSlots d) (Rules d)
+  pub kinds : Tests (soundKinds d) (Kinds d)
+  pub whole : Tests (sound d) (Rules d × Kinds d)

@@ -6,6 +6,7 @@ use mathlib.Core.Bool.{cond}
 use mathlib.Core.List.{List, [], _∷_}
 use lib.Dec.{eqb}
 use Rattle.coherence.specs.declared.Slot.the-variants.{Modified}
+use Rattle.coherence.specs.declared.Settings.{Settings}
 use Rattle.coherence.specs.declared.Directory.{Directory}
 use Rattle.coherence.specs.declared.Call.{Call}
 use Rattle.coherence.specs.declared.Call.the-variants.{Load, Store, Flush}
@@ -20,8 +21,8 @@ use Rattle.coherence.specs.Demand3.{Session}
 unfoldable pub replaced : (ℕ → List ℕ) → ℕ → List ℕ → ℕ → List ℕ
 replaced t b x c = cond (eqb c b) x (t c)
 
--- t has each block as it stood when it was last taken. An accepted store takes its block, unless its unit has it EM in the directory d; p is the
--- plain memory before the call
+-- t has each block as it stood when it was last taken. An accepted store takes its block, unless its unit has it EM in the directory d (a
+-- write-through board's store too, after which no unit has it EM); p is the plain memory before the call
 unfoldable pub takenBy : Directory → Call → List ℕ → (ℕ → List ℕ) → ℕ → List ℕ
 takenBy d (Load u a) p t = t
 takenBy d (Store u a v) p t = cond (modified (slotAt d (place u (a / 32))) (a / 32)) t (replaced t (a / 32) (blockAt p (a / 32)))
@@ -44,6 +45,6 @@ pub record MemoryHas (p : List ℕ) (t : ℕ → List ℕ) (e : Directory) (m : 
 
 unfoldable pub Snapshots : Type 0
 Snapshots =
-    (m : List ℕ) (s : Start) (cs : List Call) (rs : List Answer) (e : Directory) (m′ k′ : List ℕ)
-    → Session m s cs rs e m′ k′ → (b : ℕ) → b ≤ 63
+    (g : Settings) (m : List ℕ) (s : Start) (cs : List Call) (rs : List Answer) (e : Directory) (m′ k′ : List ℕ)
+    → Session g m s cs rs e m′ k′ → (b : ℕ) → b ≤ 63
     → MemoryHas (plainAfterAll m cs) (takenAfterAll (s .directory) m (blockAt m) cs rs) e m′ b

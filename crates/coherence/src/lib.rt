@@ -14,9 +14,27 @@ pub struct Entry {
     pub slot: Slot,
 }
 
-// The slots of all four units: slot s of unit u is number 16 u + s.
+// What a processor board's cache does with a store: a copyback cache keeps the word until a copyback, a write-through cache (ISO/IEC 14576, 2.1,
+// item 26) gives it to memory at once.
+pub enum Kind {
+    Copyback,
+    WriteThrough,
+}
+
+// A board as an array of boards holds it.
+pub struct Board {
+    pub kind: Kind,
+}
+
+// What is chosen at cold start and stays: the board of each unit.
+pub struct Settings {
+    pub boards: [Board; 4],
+}
+
+// The slots of all four units, slot s of unit u being number 16 u + s, and the settings.
 pub struct Directory {
     pub slots: [Entry; 64],
+    pub settings: Settings,
 }
 
 // One call of the machine.

@@ -11,6 +11,7 @@ use Rattle.coherence.specs.declared.Call.{Call}
 use Rattle.coherence.specs.declared.Directory.{Directory}
 use Rattle.coherence.specs.declared.Answer.{Answer}
 use Rattle.coherence.specs.PlainMemory.{plainReply, plainAfter, plainReplies}
+use Rattle.coherence.specs.Settings.{drillSettings}
 use Rattle.coherence.specs.Calls.{answer, memoryAfter, cacheAfter, answers, answersCold, startAnswer}
 use Rattle.coherence.specs.Demand3.{Demand3, Demand3Holds, ordersIn, ordersGiven, reply, Each}
 use Rattle.coherence.proofs.Sessions.{sessions}
@@ -69,10 +70,11 @@ zero-size : length zeroStore ≡ 2048
 unfolding zeroStore
 zero-size = length-replicate {A = ℕ} 2048 0
 
-tape-demand3 : (cs : List Call) → Demand3 zeroStore (startAnswer zeroStore zeroStore) cs (answersCold zeroStore cs)
+tape-demand3 : (cs : List Call) → Demand3 drillSettings zeroStore (startAnswer drillSettings zeroStore zeroStore) cs (answersCold drillSettings zeroStore cs)
 unfolding Demand3Holds
 tape-demand3 cs =
-    demand3 zeroStore (startAnswer zeroStore zeroStore) cs (answersCold zeroStore cs) _ _ _ (sessions zeroStore cs .some zeroStore zero-size zero-size)
+    demand3 drillSettings zeroStore (startAnswer drillSettings zeroStore zeroStore) cs (answersCold drillSettings zeroStore cs) _ _ _
+    (sessions drillSettings zeroStore cs .some zeroStore zero-size zero-size)
 
 in-tape : (tape : List ℕ) → AllAccepted (callsIn tape)
 unfolding callsIn

@@ -8,6 +8,7 @@ use Rattle.order.specs.Refusal.{accepted, noRoom, unreadable}
 use Rattle.coherence.specs.declared.Call.{Call}
 use Rattle.coherence.specs.declared.Answer.{Answer}
 use Rattle.coherence.specs.Bytes.{storeSize}
+use Rattle.coherence.specs.Settings.{drillSettings}
 use Rattle.coherence.specs.Calls.{answersCold}
 use Rattle.coherence.specs.Demand3.{ordersGiven}
 use Rattle.drill_format.specs.declared.Drilled.{Drilled}
@@ -30,9 +31,9 @@ zeroStore = replicate storeSize 0
 unfoldable pub callsIn : List ℕ → List Call
 callsIn tape = callsOf (readAll tape .records)
 
--- "starts cold on zero memory": the machine's answers to the calls of a tape
+-- "starts cold on zero memory", and "Drill keeps copyback boards" (document 02, T-05): the machine's answers to the calls of a tape
 unfoldable pub answersIn : List ℕ → List Answer
-answersIn tape = answersCold zeroStore (callsIn tape)
+answersIn tape = answersCold drillSettings zeroStore (callsIn tape)
 
 -- the total, or for a reading refusal "`refused N at P` .. with no total"
 unfoldable pub lastLine : Ending → ℕ → ℕ → List ℕ

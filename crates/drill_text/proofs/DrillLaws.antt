@@ -12,6 +12,8 @@ use Rattle.order.specs.Refusal.{accepted}
 use Rattle.coherence.specs.declared.Call.{Call}
 use Rattle.coherence.specs.declared.Directory.{Directory}
 use Rattle.coherence.specs.declared.Start.{Start}
+use Rattle.coherence.specs.declared.Settings.{Settings}
+use Rattle.coherence.specs.Settings.{drillSettings}
 use Rattle.coherence.specs.Slots.{coldDirectory}
 use Rattle.order.specs.Refusal.{firstRefusal}
 use Rattle.coherence.specs.Refusal.{startRefusal, sizeTest, sized}
@@ -38,15 +40,15 @@ cleared = refl
 pub started-cache : (m k k′ : List ℕ) → m ≡ zeroStore → k ≡ zeroStore → k′ ≡ cacheStarted m k → k′ ≡ zeroStore
 started-cache m k k′ em ek e = e ∙ rw (em, ek) cleared
 
-pub started-directory : (s : Start) (m k : List ℕ) → s ≡ startAnswer m k → s .directory ≡ coldDirectory
+pub started-directory : (s : Start) (g : Settings) (m k : List ℕ) → s ≡ startAnswer g m k → g ≡ drillSettings → s .directory ≡ coldDirectory drillSettings
 unfolding startAnswer
-started-directory s m k e = ap (λ (x : Start). x .directory) e
+started-directory s g m k e h = ap (λ (x : Start). x .directory) e ∙ ap coldDirectory h
 
-cold-answers : (cs : List Call) → answersCold zeroStore cs ≡ answers coldDirectory zeroStore zeroStore cs
+cold-answers : (cs : List Call) → answersCold drillSettings zeroStore cs ≡ answers (coldDirectory drillSettings) zeroStore zeroStore cs
 unfolding answersCold zeroStore
 cold-answers cs = refl
 
-pub whole-text : (t : List ℕ) (d : Directory) (m k : List ℕ) → length t ≤ tapeMost → d ≡ coldDirectory → m ≡ zeroStore → k ≡ zeroStore
+pub whole-text : (t : List ℕ) (d : Directory) (m k : List ℕ) → length t ≤ tapeMost → d ≡ coldDirectory drillSettings → m ≡ zeroStore → k ≡ zeroStore
     → textFrom d m k 0 0 (readAll t) ≡ drillText t
 unfolding textFrom drillText callsIn answersIn
 whole-text t d m k h ed em ek = rw (le-leb (length t) tapeMost h, cold-answers, ed, em, ek, zero-add, zero-add)

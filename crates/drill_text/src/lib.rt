@@ -16,6 +16,7 @@ use machine::cold_start;
 use order::NO_ROOM;
 use order::UNREADABLE;
 use run::run_tape;
+use slots::drill_settings;
 
 // The most bytes of a tape, and a space that is long enough for the text of any tape.
 pub const TAPE_MOST: usize = 65536;
@@ -34,7 +35,8 @@ fn play(failed: bool, tape: &[u8], out: &mut [u8]) -> usize
     }
     let mut memory = [0u8; 2048];
     let mut cache = [0u8; 2048];
-    let start = cold_start(&memory, &mut cache);
+    let settings = drill_settings();
+    let start = cold_start(settings, &memory, &mut cache);
     let directory = start.directory;
     run_tape(tape, directory, &mut memory, &mut cache, out)
 }
@@ -53,7 +55,8 @@ fn text_size(failed: bool, tape: &[u8]) -> usize
     }
     let mut zeros = [0u8; 2048];
     let mut slots = [0u8; 2048];
-    let start = cold_start(&zeros, &mut slots);
+    let settings = drill_settings();
+    let start = cold_start(settings, &zeros, &mut slots);
     let directory = start.directory;
     run_tape(tape, directory, &mut zeros, &mut slots, &mut none)
 }

@@ -10,13 +10,16 @@ use native.Mathlib.Numerals.{add-one}
 use lib.Dec.{leb, eqb}
 use lib.ListN.{length, getD, take, drop, set, length-append}
 use lib.Seq.{take-suc-set, getD-set-same, getD-set-other}
-use borrow.Author.Tests.{eqb-true, eqb-false, leb-true, le-leb, ne-eqb}
+use borrow.Author.Tests.{eqb-true, eqb-false, leb-true, le-leb, lt-leb, ne-eqb}
 use Rattle.coherence.specs.declared.Slot.the-variants.{Invalid, Shared, Modified}
 use Rattle.coherence.specs.declared.Entry.{Entry}
 use Rattle.coherence.specs.declared.Directory.{Directory}
 use Rattle.coherence.specs.Slots.{stateNumber, slotAt, blockOf}
+use Rattle.slots.specs.Directory.{ofSlots}
+use Rattle.slots.proofs.OfSlots.{of-slot}
 use Rattle.crossing.proofs.Spaces.{put-behind}
-use Rattle.layout.specs.Directory.{slotBytes, Paired, blockSpelled, slotSpelled, slotsSpelled}
+use Rattle.boards.specs.Boards.{setOf}
+use Rattle.layout.specs.Directory.{slotBytes, encoded, slotsPut, directoryPut, Paired, blockSpelled, slotSpelled, slotsSpelled}
 
 pub length-slotBytes : (n : ℕ) (d : Directory) → length (slotBytes n d) ≡ 2 * n
 unfolding slotBytes
@@ -25,6 +28,12 @@ length-slotBytes (suc n) d =
     length-append (slotBytes n d) (stateNumber (slotAt d n) ∷ blockOf (slotAt d n) ∷ [])
     ∙ ap (λ (k : ℕ). k + 2) (length-slotBytes n d)
     ∙ (omega arith)
+
+-- the bytes of slots do not depend on the settings
+pub bytes-of : (d : Directory) (n : ℕ) → slotBytes n (ofSlots (d .slots)) ≡ slotBytes n d
+unfolding slotBytes
+bytes-of d zero = refl
+bytes-of d (suc n) = rw (bytes-of d n, of-slot d n) refl
 
 pub put-slot : (d : Directory) (o : List ℕ) (n : ℕ) → 2 * n + 2 ≤ length o
     → set (set (slotBytes n d ++ drop (2 * n) o) (2 * n) (stateNumber (slotAt d n))) (2 * n + 1) (blockOf (slotAt d n))
@@ -36,6 +45,16 @@ put-slot d o n h =
     (put-behind (slotBytes n d) o (stateNumber (slotAt d n) ∷ blockOf (slotAt d n) ∷ []) (2 * n) (length-slotBytes n d) h
     ∙ ap (λ (k : ℕ). slotBytes (suc n) d ++ drop k o) next
     ∙ ap (λ (k : ℕ). slotBytes k d ++ drop (2 * (n + 1)) o) (sym (add-one n)))
+
+-- the set behind them
+pub put-set : (d : Directory) (o : List ℕ) → 129 ≤ length o → set (slotsPut d o) 128 (setOf (d .settings)) ≡ directoryPut d o
+unfolding slotsPut directoryPut encoded
+put-set d o h =
+    rw (le-leb 129 (length o) h) (put-behind (slotBytes 64 d) o (setOf (d .settings) ∷ []) 128 (length-slotBytes 64 d) h)
+
+pub put-none : (d : Directory) (o : List ℕ) → length o < 129 → slotsPut d o ≡ directoryPut d o
+unfolding slotsPut directoryPut
+put-none d o h = rw (lt-leb 129 (length o) h) refl
 
 pub take-slot : (l : List ℕ) (a : List Entry) (n : ℕ) → n < length a → take n a ≡ slotsSpelled n l
     → take (n + 1) (set a n (record { slot = slotSpelled (getD l (2 * n) 0) (getD l (2 * n + 1) 0) })) ≡ slotsSpelled (n + 1) l

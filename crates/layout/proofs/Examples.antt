@@ -4,14 +4,17 @@ use Rattle.order.specs.Command.{commandNumber}
 use Rattle.order.specs.Flag.{flag}
 use Rattle.coherence.specs.Slots.{stateNumber, slotAt, setSlot, blockOf, coldDirectory}
 use Rattle.coherence.specs.Calls.{packed}
+use Rattle.coherence.specs.Settings.{isThrough, through}
+use Rattle.boards.specs.Boards.{weighed, setOf}
 use Rattle.layout.specs.Directory.{slotBytes, encoded, directoryPut, slotSpelled}
 use Rattle.layout.specs.Answer.{orderNumbers, ordersNumbers, answerNumbers, answerPut}
-use Rattle.layout.specs.Examples.{mixed, twoOrders, Examples}
+use Rattle.layout.specs.Examples.{boards, mixed, twoOrders, Examples}
 
 pub examples : Examples
 unfolding
     commandNumber flag slotAt setSlot blockOf coldDirectory packed stateNumber slotBytes encoded directoryPut slotSpelled
-    orderNumbers ordersNumbers answerNumbers answerPut mixed twoOrders
+    orderNumbers ordersNumbers answerNumbers answerPut boards mixed twoOrders
+    isThrough through weighed setOf
 examples =
     record {
       directory = refl;

@@ -1,22 +1,24 @@
 -- The directory's bytes and the directory determine each other.
 use mathlib.Core.Path.{_≡_, refl, sym, ap, _∙_}
-use mathlib.Core.Bool.{Bool, true, false, cond, false≢true}
+use mathlib.Core.Bool.{Bool, true, false, cond, _&&_, false≢true}
 use mathlib.Core.List.{List, [], _∷_, _++_, append-assoc}
 use mathlib.Core.Logic.{⊎-elim}
 use Prim.Native.Nat.{ℕ, zero, suc, _+_, _*_, _≤_, _<_}
 use native.Mathlib.Omega.{arith}
 use native.Mathlib.Nat.{le-of-suc-le-suc, eq-or-lt-of-le, not-suc-le-zero}
-use lib.Dec.{eqb}
+use lib.Dec.{leb, eqb}
 use lib.ListN.{length, getD, take, replicate, length-append, List·getD-append}
 use lib.Seq.{take-suc, take-all, getD-append-add}
-use borrow.Author.Tests.{eqb-true, eq-eqb}
+use borrow.Author.Tests.{eqb-true, leb-true, le-leb}
 use Rattle.coherence.specs.declared.Slot.{Slot}
 use Rattle.coherence.specs.declared.Slot.the-variants.{Invalid, Shared, Modified}
 use Rattle.coherence.specs.declared.Entry.{Entry}
 use Rattle.coherence.specs.declared.Directory.{Directory}
-use Rattle.coherence.specs.Slots.{stateNumber, emptyEntry, slotAt, blockOf, fits, slotRule, sound}
-use Rattle.coherence.proofs.Below.{below-at}
-use Rattle.layout.specs.Directory.{slotBytes, encoded, noSlot, slotSpelled, slotsSpelled, decoded, Inverse}
+use Rattle.coherence.specs.Slots.{stateNumber, emptyEntry, slotAt, blockOf, fits, slotRule, soundSlots, soundKinds, sound}
+use Rattle.coherence.proofs.Below.{both, below-at}
+use Rattle.boards.specs.Boards.{settingsOf, setOf}
+use Rattle.layout.specs.Directory.{slotBytes, encoded, noSlot, slotSpelled, slotsSpelled, setIn, decoded, Inverse}
+use Rattle.boards.proofs.BoardLaws.{sets, set-small}
 use Rattle.layout.proofs.DirectoryLaws.{length-slotBytes}
 
 -- an element of a list that was made by adding at the end
@@ -52,24 +54,40 @@ slot-back Invalid = refl
 slot-back (Shared b) = refl
 slot-back (Modified b) = refl
 
+byte-in : (d : Directory) (i : ℕ) → i < 64
+    → (getD (encoded d) (2 * i) 0 ≡ stateNumber (slotAt d i)) × (getD (encoded d) (2 * i + 1) 0 ≡ blockOf (slotAt d i))
+unfolding encoded
+byte-in d i h =
+    let xs : List ℕ = slotBytes 64 d in
+    let ys : List ℕ = setOf (d .settings) ∷ [] in
+    let l : length xs ≡ 128 = length-slotBytes 64 d in
+    let b = byte-of d 64 i h in
+    (List·getD-append xs ys 0 (2 * i) (omega arith) ∙ b .0, List·getD-append xs ys 0 (2 * i + 1) (omega arith) ∙ b .1)
+
 slots-back : (d : Directory) (n : ℕ) → length (d .slots) ≡ 64 → n ≤ 64 → slotsSpelled n (encoded d) ≡ take n (d .slots)
-unfolding slotsSpelled encoded slotAt
+unfolding slotsSpelled slotAt
 slots-back d zero e h = refl
 slots-back d (suc n) e h =
     let l : n < 64 = omega arith in
-    let b = byte-of d 64 n l in
+    let b = byte-in d n l in
     rw (slots-back d n e (omega arith), b .0, b .1, slot-back (slotAt d n))
     (sym (take-suc (d .slots) n emptyEntry (omega arith)))
 
-pub length-encoded : (d : Directory) → length (encoded d) ≡ 128
+pub length-encoded : (d : Directory) → length (encoded d) ≡ 129
 unfolding encoded
-length-encoded d = length-slotBytes 64 d
+length-encoded d = length-append (slotBytes 64 d) (setOf (d .settings) ∷ []) ∙ ap (λ (k : ℕ). k + 1) (length-slotBytes 64 d)
 
-back : (d : Directory) → length (d .slots) ≡ 64 → decoded (encoded d) ≡ d
+set-back : (d : Directory) → setIn (encoded d) ≡ setOf (d .settings)
+unfolding setIn encoded
+set-back d =
+    let l : length (slotBytes 64 d) ≡ 128 = length-slotBytes 64 d in
+    getD-last (slotBytes 64 d) (setOf (d .settings) ∷ []) 128 0 0 (omega arith)
+
+back : (d : Directory) → length (d .slots) ≡ 64 → length (d .settings .boards) ≡ 4 → decoded (encoded d) ≡ d
 unfolding decoded
-back d e =
-    let l : length (encoded d) ≡ 128 = length-encoded d in
-    rw (l, slots-back d 64 e (omega arith), take-all 64 (d .slots) (omega arith))
+back d e f =
+    let l : length (encoded d) ≡ 129 = length-encoded d in
+    rw (l, set-back d, le-leb (setOf (d .settings)) 15 (set-small (d .settings)), slots-back d 64 e (omega arith), take-all 64 (d .slots) (omega arith), sets .back (d .settings) f)
 
 -- ---- bytes that spell a directory
 
@@ -80,7 +98,7 @@ length-slots (suc n) l = length-append (slotsSpelled n l) _ ∙ ap (λ (k : ℕ)
 
 pub length-decoded : (l : List ℕ) → length (decoded l .slots) ≡ 64
 unfolding decoded
-length-decoded l = go (eqb (length l) 128)
+length-decoded l = go (eqb (length l) 129 && leb (setIn l) 15)
   where
     go : (t : Bool) → length (cond t (slotsSpelled 64 l) (replicate 64 (record { slot = noSlot }))) ≡ 64
     go true = length-slots 64 l
@@ -114,33 +132,41 @@ pair-forth d n s b = go (eqb s 0) (eqb s 1) (eqb s 2) (eqb b 0) refl refl refl r
     go false false true z e f g h t = (sym (eqb-true s 2 g), refl)
     go false false false z e f g h t = absurd (false≢true t)
 
-slot-at : (l : List ℕ) (i : ℕ) → length l ≡ 128 → i < 64
+pub boards-decoded : (l : List ℕ) → length (decoded l .settings .boards) ≡ 4
+unfolding decoded settingsOf
+boards-decoded l = refl
+
+-- the bytes spell slots
+abbrev Spells : List ℕ → Bool
+Spells l = eqb (length l) 129 && leb (setIn l) 15
+
+slot-at : (l : List ℕ) (i : ℕ) → Spells l ≡ true → i < 64
     → slotAt (decoded l) i ≡ slotSpelled (getD l (2 * i) 0) (getD l (2 * i + 1) 0)
 unfolding slotAt decoded
-slot-at l i e h = rw (eq-eqb (length l) 128 e) (ap (λ (x : Entry). x .slot) (slot-of l 64 i h))
+slot-at l i e h = rw e (ap (λ (x : Entry). x .slot) (slot-of l 64 i h))
 
 -- the rule of slot i, of a directory that is sound
 rule-at : (d : Directory) (i : ℕ) → sound d ≡ true → i < 64 → slotRule d i (slotAt d i) ≡ true
-unfolding sound
-rule-at d i t h = below-at (λ n. slotRule d n (slotAt d n)) 64 i t h
+unfolding sound soundSlots
+rule-at d i t h = below-at (λ n. slotRule d n (slotAt d n)) 64 i (both (soundSlots d) (soundKinds d) t .0) h
 
-bytes-forth : (l : List ℕ) (n : ℕ) → length l ≡ 128 → sound (decoded l) ≡ true → n ≤ 64 → slotBytes n (decoded l) ≡ take (2 * n) l
+bytes-forth : (l : List ℕ) (n : ℕ) → length l ≡ 129 → Spells l ≡ true → sound (decoded l) ≡ true → n ≤ 64 → slotBytes n (decoded l) ≡ take (2 * n) l
 unfolding slotBytes
-bytes-forth l zero e t h = refl
-bytes-forth l (suc n) e t h =
+bytes-forth l zero e g t h = refl
+bytes-forth l (suc n) e g t h =
     let i : n < 64 = omega arith in
-    let s : slotAt (decoded l) n ≡ slotSpelled (getD l (2 * n) 0) (getD l (2 * n + 1) 0) = slot-at l n e i in
+    let s : slotAt (decoded l) n ≡ slotSpelled (getD l (2 * n) 0) (getD l (2 * n + 1) 0) = slot-at l n g i in
     let p : (stateNumber (slotAt (decoded l) n) ≡ getD l (2 * n) 0) × (blockOf (slotAt (decoded l) n) ≡ getD l (2 * n + 1) 0) =
     rw s (pair-forth (decoded l) n (getD l (2 * n) 0) (getD l (2 * n + 1) 0) (rw s at (rule-at (decoded l) n t i))) in
     let k : 2 * suc n ≡ suc (suc (2 * n)) = omega arith in
     let k₁ : suc (2 * n) ≡ 2 * n + 1 = omega arith in
-    rw (p .0, p .1, bytes-forth l n e t (omega arith), k)
+    rw (p .0, p .1, bytes-forth l n e g t (omega arith), k)
     (sym (take-suc l (suc (2 * n)) 0 (omega arith)
     ∙ ap (λ (x : List ℕ). x ++ (getD l (suc (2 * n)) 0 ∷ [])) (take-suc l (2 * n) 0 (omega arith))
     ∙ append-assoc (take (2 * n) l) (getD l (2 * n) 0 ∷ []) (getD l (suc (2 * n)) 0 ∷ [])
     ∙ ap (λ (j : ℕ). take (2 * n) l ++ (getD l (2 * n) 0 ∷ getD l j 0 ∷ [])) k₁))
 
-no-slots : (l : List ℕ) → eqb (length l) 128 ≡ false → slotAt (decoded l) 0 ≡ noSlot
+no-slots : (l : List ℕ) → Spells l ≡ false → slotAt (decoded l) 0 ≡ noSlot
 unfolding slotAt decoded
 no-slots l e = rw e
 
@@ -148,15 +174,24 @@ broken : (d : Directory) → slotRule d 0 noSlot ≡ true → ⊥
 unfolding slotRule fits
 broken d e = false≢true e
 
+set-forth : (l : List ℕ) → setIn l ≤ 15 → setOf (decoded l .settings) ≡ getD l 128 0
+unfolding decoded setIn
+set-forth l h = sets .forth (setIn l) h
+
 forth : (l : List ℕ) → sound (decoded l) ≡ true → encoded (decoded l) ≡ l
 unfolding encoded
-forth l t = go (eqb (length l) 128) refl
+forth l t = go (Spells l) refl
   where
-    go : (p : Bool) → eqb (length l) 128 ≡ p → slotBytes 64 (decoded l) ≡ l
+    go : (p : Bool) → Spells l ≡ p → slotBytes 64 (decoded l) ++ (setOf (decoded l .settings) ∷ []) ≡ l
     go true e =
-        let n : length l ≡ 128 = eqb-true (length l) 128 e in
-        bytes-forth l 64 n t (omega arith) ∙ take-all 128 l (omega arith)
+        let q = both (eqb (length l) 129) (leb (setIn l) 15) e in
+        let n : length l ≡ 129 = eqb-true (length l) 129 (q .0) in
+        rw (bytes-forth l 64 n e t (omega arith), set-forth l (leb-true (setIn l) 15 (q .1))) (sym (take-suc l 128 0 (omega arith)) ∙ take-all 129 l (omega arith))
     go false e = absurd (broken (decoded l) (rw (no-slots l e) at (rule-at (decoded l) 0 t (omega arith))))
+
+-- the set that sound bytes spell is the one they have
+pub set-kept : (l : List ℕ) → sound (decoded l) ≡ true → setOf (decoded l .settings) ≡ setIn l
+set-kept l t = sym (set-back (decoded l)) ∙ ap setIn (forth l t)
 
 pub inverse : Inverse
 inverse = record { back = back; forth = forth }

@@ -1,4 +1,5 @@
--- The directory as a caller lends it: two bytes for each slot, slot n at 2 n, its state and its block.
+-- The directory as a caller lends it: two bytes for each slot, slot n at 2 n, its state and its block; then the set of the units that have a write-through
+-- board.
 use Prim.Native.Nat.{ℕ, zero, suc, _+_, _*_, _/_, _%_, _<_}
 use mathlib.Core.Path.{_≡_}
 use mathlib.Core.Bool.{true, cond, not, _&&_}
@@ -10,10 +11,11 @@ use Rattle.coherence.specs.declared.Slot.the-variants.{Invalid, Shared, Modifie
 use Rattle.coherence.specs.declared.Entry.{Entry}
 use Rattle.coherence.specs.declared.Directory.{Directory}
 use Rattle.coherence.specs.Slots.{stateNumber, blockOf, slotAt, sound}
+use Rattle.boards.specs.Boards.{allUnits, settingsOf, setOf}
 
 -- the bytes of a directory
 abbrev pub directorySize : ℕ
-directorySize = 128
+directorySize = 129
 
 -- the bytes of the first n slots
 unfoldable pub slotBytes : ℕ → Directory → List ℕ
@@ -21,9 +23,13 @@ slotBytes zero d = []
 slotBytes (suc n) d = slotBytes n d ++ (stateNumber (slotAt d n) ∷ blockOf (slotAt d n) ∷ [])
 
 unfoldable pub encoded : Directory → List ℕ
-encoded d = slotBytes 64 d
+encoded d = slotBytes 64 d ++ (setOf (d .settings) ∷ [])
 
--- the bytes put into the first places of a lent space; it stays if it is too small
+-- the slots' bytes put into the first places of a lent space; it stays if it is too small for a directory
+unfoldable pub slotsPut : Directory → List ℕ → List ℕ
+slotsPut d o = cond (leb directorySize (length o)) (slotBytes 64 d ++ drop 128 o) o
+
+-- all its bytes put there
 unfoldable pub directoryPut : Directory → List ℕ → List ℕ
 directoryPut d o = cond (leb directorySize (length o)) (encoded d ++ drop directorySize o) o
 
@@ -50,14 +56,22 @@ unfoldable pub slotsSpelled : ℕ → List ℕ → List Entry
 slotsSpelled zero l = []
 slotsSpelled (suc n) l = slotsSpelled n l ++ (record { slot = slotSpelled (getD l (2 * n) 0) (getD l (2 * n + 1) 0) } ∷ [])
 
--- bytes of any other count spell no slot at all
+-- the set of write-through boards
+unfoldable pub setIn : List ℕ → ℕ
+setIn l = getD l 128 0
+
+-- bytes of any other count, or with a set above 15, spell no slot at all
 unfoldable pub decoded : List ℕ → Directory
 decoded l =
-    record { slots = cond (eqb (length l) directorySize) (slotsSpelled 64 l) (replicate 64 (record { slot = noSlot })) }
+    record {
+      slots =
+          cond (eqb (length l) directorySize && leb (setIn l) allUnits) (slotsSpelled 64 l) (replicate 64 (record { slot = noSlot }));
+      settings = settingsOf (setIn l);
+    }
 
 -- the bytes and the directory determine each other
 pub record Inverse : Type 0 where
   -- what was written is read back
-  pub back : (d : Directory) → length (d .slots) ≡ 64 → decoded (encoded d) ≡ d
+  pub back : (d : Directory) → length (d .slots) ≡ 64 → length (d .settings .boards) ≡ 4 → decoded (encoded d) ≡ d
   -- bytes that the machine takes for a directory are the bytes of that directory, so anything else is refused as broken
   pub forth : (l : List ℕ) → sound (decoded l) ≡ true → encoded (decoded l) ≡ l

@@ -1,4 +1,6 @@
-// The directory as bytes that a caller lends: slot n at 2 n, its state (0 I, 1 SU, 2 EM) and its block.
+// The directory as bytes that a caller lends: slot n at 2 n, its state (0 I, 1 SU, 2 EM) and its block; at 128 the set of write-through boards.
+use boards::set_of;
+use boards::settings_of;
 use coherence::Directory;
 use coherence::Entry;
 use coherence::Slot;
@@ -6,7 +8,7 @@ ghost use mathlib.Core.Path.{_≡_};
 ghost use Prim.Native.Nat.{_/_, _%_};
 ghost use lib.ListN.{length};
 ghost use Rattle.coherence.specs.Slots.{stateNumber, blockOf};
-ghost use Rattle.layout.specs.Directory.{Paired, blockSpelled, slotSpelled, decoded, directoryPut};
+ghost use Rattle.layout.specs.Directory.{Paired, blockSpelled, slotSpelled, setIn, decoded, slotsPut, directoryPut};
 
 // A block that no slot may have.
 const NO_BLOCK: u8 = 255;
@@ -40,7 +42,7 @@ fn pair(state: u8, block: u8) -> u16
 
 // The 64 pairs of bytes, each as one number. The compiler then reads and compares eight of them at a time.
 fn pairs(bytes: &[u8]) -> [u16; 64]
-    requires { ⌜ length (now bytes) ≡ 128 ⌝ }
+    requires { ⌜ length (now bytes) ≡ 129 ⌝ }
     ensures { λ r. ⌜ (length r ≡ 64) × Paired (now (bytes .entry)) 64 r ⌝ }
 {
     let mut words = [0u16; 64];
@@ -81,14 +83,22 @@ fn slot_spelled(x: u16) -> Slot
     }
 }
 
+fn set_in(bytes: &[u8]) -> u8
+    ensures { λ r. ⌜ r ≡ setIn (now (bytes .entry)) ⌝ }
+{
+    if 128 < bytes.len() { bytes[128] } else { 0 }
+}
+
 // The directory that the bytes spell. What spells none becomes one that breaks the rules.
 pub fn decode(bytes: &[u8]) -> Directory
     ensures { λ r. ⌜ r ≡ decoded (now (bytes .entry)) ⌝ }
 {
+    let set = set_in(bytes);
+    let settings = settings_of(set);
     let mut slots = [Entry {
         slot: Slot::Shared(NO_BLOCK),
     }; 64];
-    if bytes.len() == 128 {
+    if (bytes.len() == 129) & (set <= 15) {
         let words = pairs(bytes);
         let mut n = 0;
         while n < 64 {
@@ -97,14 +107,14 @@ pub fn decode(bytes: &[u8]) -> Directory
             n += 1;
         }
     }
-    Directory { slots }
+    Directory { slots, settings }
 }
 
-// The bytes of a directory, into the first 128 of the lent space. It stays if it is too small.
-pub fn encode(d: Directory, out: &mut [u8])
-    ensures { λ _. ⌜ now (out .exit) ≡ directoryPut d (now (out .entry)) ⌝ }
+// The bytes of a directory's slots, into the first 128 of the lent space. It stays if it is too small for a directory.
+pub fn encode_slots(d: Directory, out: &mut [u8])
+    ensures { λ _. ⌜ now (out .exit) ≡ slotsPut d (now (out .entry)) ⌝ }
 {
-    if out.len() < 128 {
+    if out.len() < 129 {
         return;
     }
     let slots = d.slots;
@@ -115,5 +125,16 @@ pub fn encode(d: Directory, out: &mut [u8])
         out[2 * n] = state_of(s);
         out[2 * n + 1] = block_of(s);
         n += 1;
+    }
+}
+
+// The bytes of a directory, into the first 129 of the lent space. It stays if it is too small.
+pub fn encode(d: Directory, out: &mut [u8])
+    ensures { λ _. ⌜ now (out .exit) ≡ directoryPut d (now (out .entry)) ⌝ }
+{
+    encode_slots(d, out);
+    if 129 <= out.len() {
+        let settings = d.settings;
+        out[128] = set_of(settings);
     }
 }

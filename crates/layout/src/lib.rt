@@ -5,3 +5,4 @@ mod directory;
 pub use answer::put_answer;
 pub use directory::decode;
 pub use directory::encode;
+pub use directory::encode_slots;

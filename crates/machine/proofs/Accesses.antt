@@ -8,22 +8,24 @@ use lib.Dec.{ltb}
 use lib.ListN.{length}
 use borrow.Author.Tests.{ltb-true}
 use Rattle.order.specs.declared.Command.{Command}
-use Rattle.order.specs.declared.Command.the-variants.{Read, ModifiedRead, Invalidate, Copyback}
+use Rattle.order.specs.declared.Command.the-variants.{Read, ModifiedRead, Invalidate, Copyback, MemoryWrite}
 use Rattle.order.specs.declared.Order.{Order}
 use Rattle.coherence.specs.declared.Slot.{Slot}
 use Rattle.coherence.specs.declared.Slot.the-variants.{Invalid, Shared, Modified}
 use Rattle.coherence.specs.declared.Directory.{Directory}
+use Rattle.coherence.specs.Settings.{through}
 use Rattle.coherence.specs.Bytes.{blockAt, putBlock, wordAt, putWord}
 use Rattle.coherence.specs.Refusal.{isAddress}
 use Rattle.coherence.specs.Slots.{place, slotAt, setSlot, blockOf, holds, modified, ownerOf}
-use Rattle.coherence.specs.Access.{Run, ready, give, mark, writeBack, copyback, emptied, empty, yield, ask, fill, fetch, own, write, cachePlace, load, store, flush}
+use Rattle.coherence.specs.Access.{Run, ready, give, mark, writeBack, copyback, emptied, empty, yield, ask, fill, fetch, eachUnit, expel, own, write, cachePlace, load, writeThrough, storeThrough, store, flush}
 use Rattle.coherence.proofs.SlotLaws.{size, place-lt, holds-invalid}
 use Rattle.slots.specs.Directory.{claimedAtOnce, yieldedDirectory, fetchedDirectory}
 use Rattle.orders.specs.Orders.{order, evictionOrders, askOrders, fetchOrders}
 use Rattle.blocks.specs.Moves.{copied, wordIn, wordPut, evictedMemory, yieldedMemory, fetchedMemory, fetchedCache}
+use Rattle.write_through.specs.Through.{throughDirectory, throughMemory, throughCache}
 use Rattle.slots.proofs.Sets.{set-over, set-past, owner-past}
-use Rattle.slots.proofs.Claims.{claim-is}
-use Rattle.blocks.proofs.StoreLaws.{copied-is, word-is, put-is, length-evicted, length-fetched}
+use Rattle.slots.proofs.Claims.{expel-is-all, claim-is}
+use Rattle.blocks.proofs.StoreLaws.{copied-is, word-is, put-is, length-evicted, length-yielded, length-fetched}
 use Rattle.machine.proofs.ClaimLaws.{claim-fetched}
 use Rattle.machine.proofs.Refusals.{Sized, Known, address-of}
 
@@ -167,38 +169,56 @@ unfolding load ready
 load-missed u a d m c q h = rw h (fetch-is u Read (a / 32) d m c (isAddress a) q (block-lt a (q .target)) h)
 
 -- ---- stores
-pub store-owned : (u a v : ℕ) (d : Directory) (m c : List ℕ) → Known d m c u (isAddress a) → modified (slotAt d (place u (a / 32))) (a / 32) ≡ true
+pub store-owned : (u a v : ℕ) (d : Directory) (m c : List ℕ) → Known d m c u (isAddress a) → through (d .settings) u ≡ false → modified (slotAt d (place u (a / 32))) (a / 32) ≡ true
     → store u a v (ready d m c) ≡ machine d m (wordPut c (cachePlace u a) v) []
 unfolding store own write ready
-store-owned u a v d m c q h = rw h (ap (λ (c′ : List ℕ). machine d m c′ []) (stored-in u a v d m c c q refl))
+store-owned u a v d m c q t h = rw (t, h) (ap (λ (c′ : List ℕ). machine d m c′ []) (stored-in u a v d m c c q refl))
 
-pub store-shared : (u a v : ℕ) (d : Directory) (m c : List ℕ) → Known d m c u (isAddress a) → modified (slotAt d (place u (a / 32))) (a / 32) ≡ false
+pub store-shared : (u a v : ℕ) (d : Directory) (m c : List ℕ) → Known d m c u (isAddress a) → through (d .settings) u ≡ false → modified (slotAt d (place u (a / 32))) (a / 32) ≡ false
     → holds (slotAt d (place u (a / 32))) (a / 32) ≡ true
     → store u a v (ready d m c) ≡ machine (claimedAtOnce u (a / 32) d) m (wordPut c (cachePlace u a) v) (order u Invalidate (a / 32) false ∷ [])
 unfolding store own write ready give order
-store-shared u a v d m c q g h =
-    rw (g, h)
+store-shared u a v d m c q t g h =
+    rw (t, g, h)
     (ap (write u a v) (claim-is u (a / 32) (give u Invalidate (a / 32) false (ready d m c)))
     ∙ ap (λ (c′ : List ℕ). machine (claimedAtOnce u (a / 32) d) m c′ (order u Invalidate (a / 32) false ∷ [])) (stored-in u a v d m c c q refl))
 
-pub store-missed : (u a v : ℕ) (d : Directory) (m c : List ℕ) → Known d m c u (isAddress a) → size d ≡ 64 → modified (slotAt d (place u (a / 32))) (a / 32) ≡ false
+pub store-missed : (u a v : ℕ) (d : Directory) (m c : List ℕ) → Known d m c u (isAddress a) → size d ≡ 64 → through (d .settings) u ≡ false → modified (slotAt d (place u (a / 32))) (a / 32) ≡ false
     → holds (slotAt d (place u (a / 32))) (a / 32) ≡ false
     → let b = a / 32 in let n = place u b in let x = slotAt d n in let o = ownerOf d b in
     store u a v (ready d m c)
     ≡ machine (claimedAtOnce u b d) (fetchedMemory n b x o m c) (wordPut (fetchedCache n b x o m c) (cachePlace u a) v) (fetchOrders u ModifiedRead b x o)
 unfolding store own write ready
-store-missed u a v d m c q z g h =
+store-missed u a v d m c q z t g h =
     let b : ℕ = a / 32 in
     let n : ℕ = place u b in
     let x : Slot = slotAt d n in
     let o : ℕ = ownerOf d b in
     let c₁ : List ℕ = fetchedCache n b x o m c in
-    rw (g, h)
+    rw (t, g, h)
     (ap (write u a v) (claim-is u b (fetch u ModifiedRead b (ready d m c)) ∙ ap (λ (w : Run). machine (claimedAtOnce u b (w .directory)) (w .memory) (w .cache) (w .orders)) (fetch-is u ModifiedRead b d m c (isAddress a) q (block-lt a (q .target)) h))
     ∙ ap (λ (c′ : List ℕ). machine (claimedAtOnce u b (fetchedDirectory n b o d)) (fetchedMemory n b x o m c) c′ (fetchOrders u ModifiedRead b x o))
     (stored-in u a v d m c c₁ q (length-fetched n b x o m c .1))
     ∙ ap (λ (e : Directory). machine e (fetchedMemory n b x o m c) (wordPut c₁ (cachePlace u a) v) (fetchOrders u ModifiedRead b x o))
     (claim-fetched u b d (q .unit) z))
+
+-- by a write-through unit
+pub store-through : (u a v : ℕ) (d : Directory) (m c : List ℕ) → Known d m c u (isAddress a) → through (d .settings) u ≡ true
+    → let b = a / 32 in
+    store u a v (ready d m c) ≡ machine (throughDirectory u b d) (throughMemory b a v d m c) (throughCache u b a v d c) (askOrders u MemoryWrite b (ownerOf d b))
+unfolding store storeThrough writeThrough write ready throughDirectory throughMemory throughCache
+store-through u a v d m c q t =
+    let b : ℕ = a / 32 in
+    let o : ℕ = ownerOf d b in
+    let e : Directory = throughDirectory u b d in
+    let m₁ : List ℕ = yieldedMemory b o m c in
+    let os : List Order = askOrders u MemoryWrite b o in
+    let p : a + 4 ≤ length m₁ = omega (arith, length-yielded b o m c, q .sizes .memory, address-of a (q .target) .1) in
+    rw t
+    (ap (λ (w : Run). writeThrough u a v (eachUnit (expel u b) w)) (ask-is u MemoryWrite b d m c [] (q .sizes) (block-lt a (q .target)))
+    ∙ ap (writeThrough u a v) (expel-is-all u b (machine (yieldedDirectory b o d) m₁ c os))
+    ∙ ap (λ (m′ : List ℕ). machine e m′ (cond (holds (slotAt e (place u b)) b) (putWord c (cachePlace u a) v) c) os) (sym (put-is m₁ a v p))
+    ∙ ap (λ (c′ : List ℕ). machine e (wordPut m₁ a v) (cond (holds (slotAt e (place u b)) b) c′ c) os) (stored-in u a v d m c c q refl))
 
 -- ---- flushes
 pub flush-held : (u b : ℕ) (d : Directory) (m c : List ℕ) (good : Bool) → Known d m c u good → holds (slotAt d (place u b)) b ≡ true

@@ -11,11 +11,12 @@ use borrow.Author.Tests.{ne-eqb, lt-ltb, le-ltb}
 use Rattle.coherence.specs.declared.Slot.{Slot}
 use Rattle.coherence.specs.declared.Slot.the-variants.{Invalid, Shared, Modified}
 use Rattle.coherence.specs.declared.Entry.{Entry}
+use Rattle.coherence.specs.declared.Settings.{Settings}
 use Rattle.coherence.specs.declared.Directory.{Directory}
 use Rattle.coherence.specs.Slots.{emptyEntry, place, slotAt, setSlot, holds, modified, ownerOf}
 use Rattle.coherence.proofs.Cases.{eq-or-ne, four}
 use Rattle.coherence.proofs.SlotLaws.{size, size-set, slot-same, slot-other, place-lt, place-ne, owner-cases, shared-holds, modified-holds, modified-is, is-modified}
-use Rattle.slots.specs.Directory.{released, releaseInto, claimedAtOnce, yieldedDirectory, fetchedDirectory}
+use Rattle.slots.specs.Directory.{released, releaseInto, expelledAtOnce, claimedAtOnce, yieldedDirectory, fetchedDirectory}
 
 -- ---- directories that have the same slots are the same
 entries-same : (a c : List Entry) → length a ≡ length c → ((j : ℕ) → getD a j emptyEntry .slot ≡ getD c j emptyEntry .slot) → a ≡ c
@@ -27,9 +28,11 @@ entries-same (x ∷ a) (y ∷ c) l h =
     let q : a ≡ c = entries-same a c (omega arith) (λ j. h (suc j)) in
     ap (λ (e : Entry). e ∷ a) p ∙ ap (λ (t : List Entry). y ∷ t) q
 
-slots-same : (d e : Directory) → size d ≡ size e → ((j : ℕ) → slotAt d j ≡ slotAt e j) → d ≡ e
+slots-same : (d e : Directory) → size d ≡ size e → ((j : ℕ) → slotAt d j ≡ slotAt e j) → d .settings ≡ e .settings → d ≡ e
 unfolding size slotAt
-slots-same d e l h = ap (λ (a : List Entry). record { slots = a }) (entries-same (d .slots) (e .slots) l h)
+slots-same d e l h g =
+    ap (λ (a : List Entry). record { slots = a; settings = d .settings }) (entries-same (d .slots) (e .slots) l h)
+    ∙ ap (λ (f : Settings). record { slots = e .slots; settings = f }) g
 
 -- ---- the slots after a claim
 module _ (u b : ℕ) (d : Directory) (l : u < 4) (z : size d ≡ 64) where
@@ -62,11 +65,11 @@ module _ (u b : ℕ) (d : Directory) (l : u < 4) (z : size d ≡ 64) where
   size₃ = size-in 3 in₂ ∙ size₂
 
   size-claimed : size (claimedAtOnce u b d) ≡ 64
-  unfolding claimedAtOnce
+  unfolding claimedAtOnce expelledAtOnce
   size-claimed = size-set in₃ _ _ ∙ size₃
 
   claimed-own : slotAt (claimedAtOnce u b d) (place u b) ≡ Modified b
-  unfolding claimedAtOnce
+  unfolding claimedAtOnce expelledAtOnce
   claimed-own = slot-same in₃ (place u b) (Modified b) (rw size₃ (place-lt u b l))
 
   -- slot j after unit v's was set
@@ -90,11 +93,11 @@ module _ (u b : ℕ) (d : Directory) (l : u < 4) (z : size d ≡ 64) where
       (set-at 3 in₂ (omega arith) size₂)
 
   claimed-unit : (v : ℕ) → v < 4 → (v ≡ u → ⊥) → slotAt (claimedAtOnce u b d) (place v b) ≡ released (slotAt d (place v b)) b v u
-  unfolding claimedAtOnce
+  unfolding claimedAtOnce expelledAtOnce
   claimed-unit v h n = slot-other in₃ (place u b) (place v b) (Modified b) (apart v u n) ∙ in-unit v h
 
   claimed-other : (j : ℕ) → (j ≡ place u b → ⊥) → ((v : ℕ) → v < 4 → j ≡ place v b → ⊥) → slotAt (claimedAtOnce u b d) j ≡ slotAt d j
-  unfolding claimedAtOnce
+  unfolding claimedAtOnce expelledAtOnce
   claimed-other j n h =
       slot-other in₃ (place u b) j (Modified b) n
       ∙ past 3 in₂ j (h 3 (omega arith)) ∙ past 2 in₁ j (h 2 (omega arith)) ∙ past 1 in₀ j (h 1 (omega arith)) ∙ past 0 d j (h 0 (omega arith))
@@ -187,5 +190,10 @@ module _ (u b : ℕ) (d : Directory) (l : u < 4) (z : size d ≡ 64) where
 
 pub claim-fetched : (u b : ℕ) (d : Directory) → u < 4 → size d ≡ 64
     → claimedAtOnce u b (fetchedDirectory (place u b) b (ownerOf d b) d) ≡ claimedAtOnce u b d
+unfolding claimedAtOnce expelledAtOnce releaseInto setSlot fetchedDirectory yieldedDirectory
 claim-fetched u b d l z =
-    slots-same _ _ (size-claimed u b _ l (fetched-size u b d l z) ∙ sym (size-claimed u b d l z)) (same-slots u b d l z)
+    slots-same _ _ (size-claimed u b _ l (fetched-size u b d l z) ∙ sym (size-claimed u b d l z)) (same-slots u b d l z) (go (ltb (ownerOf d b) 4))
+  where
+    go : (t : Bool) → cond t (setSlot d (place (ownerOf d b) b) (Shared b)) d .settings ≡ d .settings
+    go true = refl
+    go false = refl

@@ -1,5 +1,5 @@
 // The cache machine: cold start, loads, stores and flushes, and peek. Each call tests its inputs, and answers and leaves what the
-// definitions of `coherence` say, for every input.
+// definitions of `coherence` say, for every input. A call takes slots and settings apart, and its answer puts them together.
 ghost use mathlib.Core.Path.{_≡_};
 ghost use mathlib.Core.Bool.{cond};
 ghost use Prim.Native.Nat.{_+_};
@@ -16,6 +16,7 @@ use blocks::word_at;
 use coherence::Answer;
 use coherence::Call;
 use coherence::Directory;
+use coherence::Settings;
 use coherence::Slot;
 use coherence::Start;
 use order::BAD_ADDRESS;
@@ -30,7 +31,6 @@ use orders::one_order;
 use orders::refused;
 use refusal::is_address;
 use refusal::is_sized;
-use refusal::is_sound;
 use refusal::refusal_of;
 use slots::cache_place;
 use slots::claimed;
@@ -38,16 +38,19 @@ use slots::cold_directory;
 use slots::fetched;
 use slots::has_modified;
 use slots::holds_block;
+use slots::is_through;
 use slots::owner;
 use slots::place_of;
 use slots::set_slot;
 use slots::slot_at;
+use soundness::is_sound;
+use write_through::store_through;
 
-// All slots invalid, and the cache store all zeros. Refused, it leaves the cache store as it was.
-pub fn cold_start(memory: &[u8], cache: &mut [u8]) -> Start
-    ensures { λ r. ⌜ (r ≡ startAnswer (now (memory .entry)) (now (cache .entry))) × (now (cache .exit) ≡ cacheStarted (now (memory .entry)) (now (cache .entry))) ⌝ }
+// All slots invalid, with the chosen settings, and the cache store all zeros. Refused, it leaves the cache store as it was.
+pub fn cold_start(settings: Settings, memory: &[u8], cache: &mut [u8]) -> Start
+    ensures { λ r. ⌜ (r ≡ startAnswer settings (now (memory .entry)) (now (cache .entry))) × (now (cache .exit) ≡ cacheStarted (now (memory .entry)) (now (cache .entry))) ⌝ }
 {
-    let directory = cold_directory();
+    let directory = cold_directory(settings);
     if is_sized(memory, cache) {
         clear(cache);
         Start {
@@ -76,21 +79,23 @@ pub fn load(
     if refusal != 0 {
         return refused(refusal, directory);
     }
+    let slots = directory.slots;
+    let settings = directory.settings;
     let block = (address / 32) as u8;
     let n = place_of(unit, block);
-    let slot = slot_at(directory, n);
+    let slot = slot_at(slots, n);
     let at = cache_place(unit, address);
     if holds_block(slot, block) {
         let value = word_at(cache, at);
         let orders = no_orders();
-        accepted(value, orders, directory)
+        accepted(value, orders, slots, settings)
     } else {
-        let holder = owner(directory, block);
+        let holder = owner(slots, block);
         fetch_bytes(slot, holder, memory, cache, n, block);
         let value = word_at(cache, at);
         let orders = fetch_orders(slot, holder, unit, Command::Read, block);
-        let left = fetched(directory, n, holder, block);
-        accepted(value, orders, left)
+        let left = fetched(slots, n, holder, block);
+        accepted(value, orders, left, settings)
     }
 }
 
@@ -109,26 +114,31 @@ pub fn store(
     if refusal != 0 {
         return refused(refusal, directory);
     }
+    let slots = directory.slots;
+    let settings = directory.settings;
     let block = (address / 32) as u8;
+    if is_through(settings, unit) {
+        return store_through(directory, memory, cache, unit, block, address, value);
+    }
     let n = place_of(unit, block);
-    let slot = slot_at(directory, n);
+    let slot = slot_at(slots, n);
     let at = cache_place(unit, address);
     if has_modified(slot, block) {
         put_word(cache, at, value);
         let orders = no_orders();
-        accepted(0, orders, directory)
+        accepted(0, orders, slots, settings)
     } else if holds_block(slot, block) {
         put_word(cache, at, value);
         let orders = one_order(unit, Command::Invalidate, block);
-        let left = claimed(directory, unit, block);
-        accepted(0, orders, left)
+        let left = claimed(slots, unit, block);
+        accepted(0, orders, left, settings)
     } else {
-        let holder = owner(directory, block);
+        let holder = owner(slots, block);
         fetch_bytes(slot, holder, memory, cache, n, block);
         put_word(cache, at, value);
         let orders = fetch_orders(slot, holder, unit, Command::ModifiedRead, block);
-        let left = claimed(directory, unit, block);
-        accepted(0, orders, left)
+        let left = claimed(slots, unit, block);
+        accepted(0, orders, left, settings)
     }
 }
 
@@ -140,16 +150,18 @@ pub fn flush(directory: Directory, memory: &mut [u8], cache: &[u8], unit: u8, bl
     if refusal != 0 {
         return refused(refusal, directory);
     }
+    let slots = directory.slots;
+    let settings = directory.settings;
     let n = place_of(unit, block);
-    let slot = slot_at(directory, n);
+    let slot = slot_at(slots, n);
     if holds_block(slot, block) {
         evict_bytes(slot, memory, cache, n);
         let orders = eviction_orders(slot, unit);
-        let left = set_slot(directory, n, Slot::Invalid);
-        accepted(0, orders, left)
+        let left = set_slot(slots, n, Slot::Invalid);
+        accepted(0, orders, left, settings)
     } else {
         let orders = no_orders();
-        accepted(0, orders, directory)
+        accepted(0, orders, slots, settings)
     }
 }
 
@@ -188,7 +200,8 @@ pub fn peek<'a>(directory: Directory, memory: &'a [u8], cache: &'a [u8], block: 
     if peek_refusal(directory, memory, cache, block) != 0 {
         return &memory[0..0];
     }
-    let unit = owner(directory, block);
+    let slots = directory.slots;
+    let unit = owner(slots, block);
     if unit < 4 {
         let at = 32 * place_of(unit, block);
         &cache[at..at + 32]

@@ -1,7 +1,8 @@
-// Five million loads and stores in one loop, to be timed: the machine's calls with no boundary around them. It prints a sum of the loaded values,
+// Five million loads and stores on copyback boards in one loop, to be timed: the machine's calls with no boundary around them. It prints a sum of the loaded values,
 // which is compared with that of the second implementation in `outside/`.
 use coherence::Answer;
 use coherence::Directory;
+use slots::drill_settings;
 
 // The next number of a fixed sequence.
 fn step(x: u32) -> u32 {
@@ -21,7 +22,7 @@ fn turn(d: Directory, memory: &mut [u8], cache: &mut [u8], x: u32) -> Answer {
 }
 
 fn run(memory: &mut [u8], cache: &mut [u8]) -> u32 {
-    let started = machine::cold_start(memory, cache);
+    let started = machine::cold_start(drill_settings(), memory, cache);
     let mut d = started.directory;
     let mut sum: u32 = 0;
     let mut x: u32 = 12345;

@@ -43,6 +43,7 @@ pub enum Command {
     ModifiedRead,
     Invalidate,
     Copyback,
+    MemoryWrite,
 }
 
 // One order on the bus: the unit that gives it, and whether it was answered with a retry.
@@ -67,6 +68,7 @@ pub fn command_number(command: Command) -> u8
         Command::ModifiedRead => 1,
         Command::Invalidate => 2,
         Command::Copyback => 3,
+        Command::MemoryWrite => 4,
     }
 }
 
@@ -78,6 +80,7 @@ pub fn command_of(number: u64) -> CommandFound
         1 => CommandFound::Known(Command::ModifiedRead),
         2 => CommandFound::Known(Command::Invalidate),
         3 => CommandFound::Known(Command::Copyback),
+        4 => CommandFound::Known(Command::MemoryWrite),
         _ => CommandFound::Unknown,
     }
 }

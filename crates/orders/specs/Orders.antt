@@ -9,6 +9,8 @@ use Rattle.order.specs.declared.Command.the-variants.{Copyback}
 use Rattle.order.specs.declared.Order.{Order}
 use Rattle.coherence.specs.declared.Slot.{Slot}
 use Rattle.coherence.specs.declared.Slot.the-variants.{Invalid, Shared, Modified}
+use Rattle.coherence.specs.declared.Entry.{Entry}
+use Rattle.coherence.specs.declared.Settings.{Settings}
 use Rattle.coherence.specs.declared.Directory.{Directory}
 use Rattle.coherence.specs.declared.Orders.{Orders}
 use Rattle.coherence.specs.declared.Answer.{Answer}
@@ -30,6 +32,10 @@ askOrders u k b v = cond (ltb v 4) (order u k b true ∷ order v Copyback b fals
 -- getting a block that is not held
 unfoldable pub fetchOrders : ℕ → Command → ℕ → Slot → ℕ → List Order
 fetchOrders u k b x v = evictionOrders u x ++ askOrders u k b v
+
+-- a directory by its parts
+abbrev pub directoryOf : List Entry → Settings → Directory
+directoryOf l g = record { slots = l; settings = g }
 
 -- an answer by its parts
 unfoldable pub answerOf : ℕ → ℕ → Orders → Directory → Answer

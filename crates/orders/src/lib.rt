@@ -4,10 +4,12 @@ ghost use mathlib.Core.Bool.{false};
 ghost use mathlib.Core.List.{[], _∷_};
 ghost use Rattle.coherence.specs.Calls.{noOrder, packed};
 ghost use Rattle.order.specs.declared.Command.the-variants.{Copyback};
-ghost use Rattle.orders.specs.Orders.{order, evictionOrders, askOrders, fetchOrders, answerOf};
+ghost use Rattle.orders.specs.Orders.{order, evictionOrders, askOrders, fetchOrders, directoryOf, answerOf};
 use coherence::Answer;
 use coherence::Directory;
+use coherence::Entry;
 use coherence::Orders;
+use coherence::Settings;
 use coherence::Slot;
 use order::Command;
 use order::Order;
@@ -147,10 +149,11 @@ pub fn fetch_orders(slot: Slot, holder: u8, unit: u8, command: Command, block: u
     }
 }
 
-// The answer of an accepted call.
-pub fn accepted(value: u32, orders: Orders, directory: Directory) -> Answer
-    ensures { λ r. ⌜ r ≡ answerOf 0 value orders directory ⌝ }
+// The answer of an accepted call, which leaves these slots and keeps the settings.
+pub fn accepted(value: u32, orders: Orders, slots: [Entry; 64], settings: Settings) -> Answer
+    ensures { λ r. ⌜ r ≡ answerOf 0 value orders (directoryOf slots settings) ⌝ }
 {
+    let directory = Directory { slots, settings };
     Answer {
         refusal: 0,
         value,

@@ -15,7 +15,8 @@ use Rattle.tape_format.specs.declared.Record.{Record}
 use Rattle.tape_format.specs.declared.Record.the-variants as rec
 use Rattle.tape_format.specs.Record.{kindOf, fieldsOf}
 use Rattle.tape_format.specs.Ranges.{IsAddress, Ends, InRange}
-use Rattle.tape_format.proofs.LayoutLaws.{number-of-command, flag-back}
+use Rattle.order.proofs.CommandLaws.{number-of-command}
+use Rattle.tape_format.proofs.LayoutLaws.{flag-back}
 use Rattle.crossing.specs.Capped.{capped}
 use Rattle.crossing.proofs.CappedLaws.{caps}
 use Rattle.record_numbers.specs.declared.RecordFound.{RecordFound}

@@ -1,15 +1,12 @@
 // The tests of a call, in their order, and the number of the first that fails.
 ghost use mathlib.Core.Path.{_≡_};
 ghost use Rattle.coherence.specs.Refusal.{sized, isAddress, callRefusal};
-
-mod soundness;
-
 use coherence::Directory;
 use order::BAD_ADDRESS;
 use order::BROKEN_DIRECTORY;
 use order::NO_UNIT;
 use order::WRONG_SIZE;
-pub use soundness::is_sound;
+use soundness::is_sound;
 
 pub fn is_sized(memory: &[u8], cache: &[u8]) -> bool
     ensures { λ r. ⌜ r ≡ sized (now (memory .entry)) (now (cache .entry)) ⌝ }

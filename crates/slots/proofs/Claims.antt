@@ -1,4 +1,4 @@
--- A claim of a block, with the four slots of its number read first and written together.
+-- A block taken from its other holders, and claimed, with the four slots of its number read first and written together.
 use mathlib.Core.Path.{_≡_, refl, sym, ap, _∙_}
 use mathlib.Core.Bool.{Bool, true, false, cond, not, _&&_}
 use Prim.Native.Nat.{ℕ, _+_, _*_, _%_}
@@ -13,12 +13,12 @@ use Rattle.coherence.specs.declared.Entry.{Entry}
 use mathlib.Core.List.{List}
 use Rattle.coherence.specs.Slots.{emptyEntry, place, slotAt, setSlot, holds, ownerOf}
 use Rattle.coherence.specs.Access.{Run, mark, expel, eachUnit, claim}
-use Rattle.slots.specs.Directory.{firstModified, released, releaseInto, setColumn, claimedAtOnce}
+use Rattle.slots.specs.Directory.{firstModified, released, releaseInto, setColumn, expelledAtOnce, claimedAtOnce}
 use Rattle.coherence.proofs.SlotLaws.{slot-other}
 
 set-own : (d : Directory) (n : ℕ) → setSlot d n (slotAt d n) ≡ d
 unfolding setSlot slotAt
-set-own d n = ap (λ (l : List Entry). record { slots = l }) (set-getD (d .slots) n emptyEntry)
+set-own d n = ap (λ (l : List Entry). record { slots = l; settings = d .settings }) (set-getD (d .slots) n emptyEntry)
 
 -- an action on the directory alone
 unfoldable withDirectory : (Directory → Directory) → Run → Run
@@ -45,10 +45,9 @@ release-late u b v d e h = rw h refl
 abbrev each : ℕ → ℕ → ℕ → Directory → Directory
 each u b v d = releaseInto u b d v d
 
-claim-dir : (u b : ℕ) (d : Directory)
-    → setSlot (each u b 3 (each u b 2 (each u b 1 (each u b 0 d)))) (place u b) (Modified b) ≡ claimedAtOnce u b d
-unfolding claimedAtOnce
-claim-dir u b d =
+expel-dir : (u b : ℕ) (d : Directory) → each u b 3 (each u b 2 (each u b 1 (each u b 0 d))) ≡ expelledAtOnce u b d
+unfolding expelledAtOnce
+expel-dir u b d =
     let d₁ : Directory = releaseInto u b d 0 d in
     let d₂ : Directory = releaseInto u b d 1 d₁ in
     let d₃ : Directory = releaseInto u b d 2 d₂ in
@@ -57,34 +56,38 @@ claim-dir u b d =
     release-late u b 2 d d₂ (release-other u b 1 d d₁ 2 (omega arith) ∙ release-other u b 0 d d 2 (omega arith)) in
     let e₃ : releaseInto u b d₃ 3 d₃ ≡ releaseInto u b d 3 d₃ =
     release-late u b 3 d d₃ (release-other u b 2 d d₂ 3 (omega arith) ∙ release-other u b 1 d d₁ 3 (omega arith) ∙ release-other u b 0 d d 3 (omega arith)) in
-    ap (λ (x : Directory). setSlot x (place u b) (Modified b))
-    (ap (λ (x : Directory). releaseInto u b (releaseInto u b x 2 x) 3 (releaseInto u b x 2 x)) e₁
+    ap (λ (x : Directory). releaseInto u b (releaseInto u b x 2 x) 3 (releaseInto u b x 2 x)) e₁
     ∙ ap (λ (x : Directory). releaseInto u b x 3 x) e₂
-    ∙ e₃)
+    ∙ e₃
+
+pub expel-is-all : (u b : ℕ) (w : Run)
+    → eachUnit (expel u b) w ≡ record { directory = expelledAtOnce u b (w .directory); memory = w .memory; cache = w .cache; orders = w .orders }
+unfolding eachUnit withDirectory
+expel-is-all u b w =
+    rw (expel-is u b 0 w, expel-is u b 1, expel-is u b 2, expel-is u b 3)
+    (ap (λ (d : Directory). withDirectory (λ _. d) w) (expel-dir u b (w .directory)))
 
 pub claim-is : (u b : ℕ) (w : Run)
     → claim u b w ≡ record { directory = claimedAtOnce u b (w .directory); memory = w .memory; cache = w .cache; orders = w .orders }
-unfolding claim eachUnit mark withDirectory
-claim-is u b w =
-    rw (expel-is u b 0 w, expel-is u b 1, expel-is u b 2, expel-is u b 3)
-    (ap (λ (d : Directory). withDirectory (λ _. d) w) (claim-dir u b (w .directory)))
+unfolding claim mark claimedAtOnce
+claim-is u b w = ap (mark (place u b) (Modified b)) (expel-is-all u b w)
 
 place-at : (v b s : ℕ) → s ≡ b % 16 → place v b ≡ 16 * v + s
 unfolding place
 place-at v b s h = omega arith
 
--- the four slots, released and written together, and the unit's own
-pub claimed-column : (d : Directory) (u b s : ℕ) (w x y z : Slot) → s ≡ b % 16
+-- the four slots, released and written together
+pub expelled-column : (d : Directory) (u b s : ℕ) (w x y z : Slot) → s ≡ b % 16
     → w ≡ released (getD (d .slots) s emptyEntry .slot) b 0 u → x ≡ released (getD (d .slots) (16 + s) emptyEntry .slot) b 1 u
     → y ≡ released (getD (d .slots) (32 + s) emptyEntry .slot) b 2 u → z ≡ released (getD (d .slots) (48 + s) emptyEntry .slot) b 3 u
-    → setSlot (setColumn d s w x y z) (place u b) (Modified b) ≡ claimedAtOnce u b d
-unfolding claimedAtOnce releaseInto setColumn slotAt
-claimed-column d u b s w x y z hs hw hx hy hz =
+    → setColumn d s w x y z ≡ expelledAtOnce u b d
+unfolding expelledAtOnce releaseInto setColumn slotAt
+expelled-column d u b s w x y z hs hw hx hy hz =
     let e₀ : place 0 b ≡ s = place-at 0 b s hs ∙ omega arith in
     let e₁ : place 1 b ≡ 16 + s = place-at 1 b s hs ∙ omega arith in
     let e₂ : place 2 b ≡ 32 + s = place-at 2 b s hs ∙ omega arith in
     let e₃ : place 3 b ≡ 48 + s = place-at 3 b s hs ∙ omega arith in
-    ap (λ (f : Directory). setSlot f (place u b) (Modified b)) (rw (e₀, e₁, e₂, e₃, hw, hx, hy, hz) refl)
+    rw (e₀, e₁, e₂, e₃, hw, hx, hy, hz) refl
 
 -- the owner of a block, from the four slots in which it has its place
 pub owner-column : (d : Directory) (b s : ℕ) → s ≡ b % 16

@@ -10,6 +10,9 @@ use Rattle.coherence.specs.declared.Slot.{Slot}
 use Rattle.coherence.specs.declared.Slot.the-variants.{Invalid}
 use Rattle.coherence.specs.declared.Entry.{Entry}
 use Rattle.coherence.specs.declared.Directory.{Directory}
+use Rattle.coherence.specs.declared.Board.{Board}
+use Rattle.coherence.specs.declared.Settings.{Settings}
+use Rattle.coherence.specs.Settings.{copybackBoard, isThrough, through}
 use Rattle.coherence.specs.Slots.{emptyEntry, place, slotAt, setSlot, modified, ownerOf}
 use Rattle.coherence.proofs.Cases.{eq-or-ne, lt-or-le}
 use Rattle.coherence.proofs.SlotLaws.{size, slot-same, slot-other}
@@ -17,11 +20,11 @@ use Rattle.coherence.proofs.SlotLaws.{size, slot-same, slot-other}
 -- the later of two sets of one slot counts
 pub set-over : (d : Directory) (n : ℕ) (x y : Slot) → setSlot (setSlot d n x) n y ≡ setSlot d n y
 unfolding setSlot
-set-over d n x y = ap (λ (l : List Entry). record { slots = l }) (set-set (d .slots) n (record { slot = x }) (record { slot = y }))
+set-over d n x y = ap (λ (l : List Entry). record { slots = l; settings = d .settings }) (set-set (d .slots) n (record { slot = x }) (record { slot = y }))
 
 set-swap : (d : Directory) (n p : ℕ) (x y : Slot) → (n ≡ p → ⊥) → setSlot (setSlot d n x) p y ≡ setSlot (setSlot d p y) n x
 unfolding setSlot
-set-swap d n p x y e = ap (λ (l : List Entry). record { slots = l }) (set-comm (d .slots) n p (record { slot = x }) (record { slot = y }) e)
+set-swap d n p x y e = ap (λ (l : List Entry). record { slots = l; settings = d .settings }) (set-comm (d .slots) n p (record { slot = x }) (record { slot = y }) e)
 
 -- also with another set between
 pub set-past : (d : Directory) (n p : ℕ) (x y z : Slot) → setSlot (setSlot (setSlot d n x) p y) n z ≡ setSlot (setSlot d p y) n z
@@ -30,8 +33,8 @@ set-past d n p x y z = ⊎-elim
     (λ (e : n ≡ p → ⊥). ap (λ (f : Directory). setSlot f n z) (set-swap d n p x y e) ∙ set-over (setSlot d p y) n x z)
     (eq-or-ne n p)
 
--- what an array of slots says of its list
-pub length-mapped : {Y : Type 0} (f : Entry → Y) (l : List Entry) (n : ℕ) → length (map f l) ≡ n → length l ≡ n
+-- what an array of structs says of its list
+pub length-mapped : {X Y : Type 0} (f : X → Y) (l : List X) (n : ℕ) → length (map f l) ≡ n → length l ≡ n
 length-mapped f l n e = sym (length-map l f) ∙ e
 
 -- past the last slot
@@ -41,7 +44,11 @@ slot-far d n h = ap (λ (e : Entry). e .slot) (List·getD-eq-default (d .slots) 
 
 pub set-far : (d : Directory) (n : ℕ) (x : Slot) → length (d .slots) ≤ n → setSlot d n x ≡ d
 unfolding setSlot
-set-far d n x h = ap (λ (l : List Entry). record { slots = l }) (set-out (d .slots) n (record { slot = x }) h)
+set-far d n x h = ap (λ (l : List Entry). record { slots = l; settings = d .settings }) (set-out (d .slots) n (record { slot = x }) h)
+
+pub board-far : (g : Settings) (u : ℕ) → length (g .boards) ≤ u → through g u ≡ false
+unfolding through isThrough
+board-far g u h = ap (λ (x : Board). isThrough (x .kind)) (List·getD-eq-default (g .boards) copybackBoard h)
 
 -- a slot that had not b EM, and has not after the set either
 modified-past : (d : Directory) (n j : ℕ) (x : Slot) (b : ℕ) → modified (slotAt d n) b ≡ false → modified x b ≡ false

@@ -2,11 +2,18 @@
 -- are `coherence`'s; the proofs show that these come to the same.
 use Prim.Native.Nat.{ℕ, _+_}
 use mathlib.Core.Bool.{cond, not, _&&_}
+use mathlib.Core.List.{List}
 use lib.Dec.{ltb, eqb}
 use Rattle.coherence.specs.declared.Slot.{Slot}
 use Rattle.coherence.specs.declared.Slot.the-variants.{Invalid, Shared, Modified}
+use Rattle.coherence.specs.declared.Entry.{Entry}
 use Rattle.coherence.specs.declared.Directory.{Directory}
+use Rattle.coherence.specs.Settings.{drillSettings}
 use Rattle.coherence.specs.Slots.{place, slotAt, setSlot, holds, modified}
+
+-- a directory of these slots, which the code takes and gives without the settings: nothing that is said of slots depends on them
+abbrev pub ofSlots : List Entry → Directory
+ofSlots l = record { slots = l; settings = drillSettings }
 
 -- the first of the four units whose slot has block b modified, or 4
 unfoldable pub firstModified : Slot → Slot → Slot → Slot → ℕ → ℕ
@@ -20,10 +27,13 @@ released x b v u = cond (not (eqb v u) && holds x b) Invalid x
 unfoldable pub releaseInto : ℕ → ℕ → Directory → ℕ → Directory → Directory
 releaseInto u b d v e = setSlot e (place v b) (released (slotAt d (place v b)) b v u)
 
--- the directory d once unit u claims block b, each unit's slot read from d
+-- the directory d once no unit but u holds block b, each unit's slot read from d
+unfoldable pub expelledAtOnce : ℕ → ℕ → Directory → Directory
+expelledAtOnce u b d = releaseInto u b d 3 (releaseInto u b d 2 (releaseInto u b d 1 (releaseInto u b d 0 d)))
+
+-- the directory d once unit u claims block b
 unfoldable pub claimedAtOnce : ℕ → ℕ → Directory → Directory
-claimedAtOnce u b d =
-    setSlot (releaseInto u b d 3 (releaseInto u b d 2 (releaseInto u b d 1 (releaseInto u b d 0 d)))) (place u b) (Modified b)
+claimedAtOnce u b d = setSlot (expelledAtOnce u b d) (place u b) (Modified b)
 
 -- the four units' slots s become w, x, y and z
 unfoldable pub setColumn : Directory → ℕ → Slot → Slot → Slot → Slot → Directory

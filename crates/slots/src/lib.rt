@@ -1,19 +1,24 @@
-// The directory's slots: one read, one set, the unit that has a block EM, a claim, and what a fetch leaves. Past the last slot one reads as invalid, and
-// setting one changes nothing.
+// The directory's slots: one read, one set, the unit that has a block EM, a block taken from its holders, a claim, and what a fetch leaves; and a unit's kind
+// of board. Past the last slot one reads as invalid, and setting one changes nothing. The 64 slots go from hand to hand without the settings: so a copy of
+// them has 128 bytes (docs/PERFORMANCE.md).
 ghost use mathlib.Core.Path.{_≡_};
 ghost use Prim.Native.Nat.{_<_};
+ghost use Rattle.coherence.specs.Settings.{through, drillSettings};
 ghost use Rattle.coherence.specs.Slots.{place, slotAt, setSlot, holds, modified, ownerOf, coldDirectory};
 ghost use Rattle.coherence.specs.Access.{cachePlace};
-ghost use Rattle.slots.specs.Directory.{firstModified, released, setColumn, claimedAtOnce, fetchedDirectory};
+ghost use Rattle.slots.specs.Directory.{ofSlots, firstModified, released, setColumn, expelledAtOnce, claimedAtOnce, yieldedDirectory, fetchedDirectory};
+use coherence::Board;
 use coherence::Directory;
 use coherence::Entry;
+use coherence::Kind;
+use coherence::Settings;
 use coherence::Slot;
 
-pub fn slot_at(directory: Directory, n: usize) -> Slot
-    ensures { λ r. ⌜ r ≡ slotAt directory n ⌝ }
+pub fn slot_at(slots: [Entry; 64], n: usize) -> Slot
+    ensures { λ r. ⌜ r ≡ slotAt (ofSlots slots) n ⌝ }
 {
     if n < 64 {
-        let entry = directory.slots[n];
+        let entry = slots[n];
         let slot = entry.slot;
         slot
     } else {
@@ -21,12 +26,12 @@ pub fn slot_at(directory: Directory, n: usize) -> Slot
     }
 }
 
-pub fn set_slot(directory: Directory, n: usize, slot: Slot) -> Directory
-    ensures { λ r. ⌜ r ≡ setSlot directory n slot ⌝ }
+pub fn set_slot(slots: [Entry; 64], n: usize, slot: Slot) -> [Entry; 64]
+    ensures { λ r. ⌜ r ≡ setSlot (ofSlots slots) n slot .slots ⌝ }
 {
-    let mut left = directory;
+    let mut left = slots;
     if n < 64 {
-        left.slots[n] = Entry { slot };
+        left[n] = Entry { slot };
     }
     left
 }
@@ -65,14 +70,42 @@ pub fn has_modified(slot: Slot, block: u8) -> bool
     }
 }
 
-pub fn cold_directory() -> Directory
-    ensures { λ r. ⌜ r ≡ coldDirectory ⌝ }
+pub fn cold_directory(settings: Settings) -> Directory
+    ensures { λ r. ⌜ r ≡ coldDirectory settings ⌝ }
 {
     let entry = Entry {
         slot: Slot::Invalid,
     };
     let slots = [entry; 64];
-    Directory { slots }
+    Directory { slots, settings }
+}
+
+// Four copyback boards.
+pub fn drill_settings() -> Settings
+    ensures { λ r. ⌜ r ≡ drillSettings ⌝ }
+{
+    let board = Board {
+        kind: Kind::Copyback,
+    };
+    let boards = [board; 4];
+    Settings { boards }
+}
+
+// Whether the unit has a write-through board.
+pub fn is_through(settings: Settings, unit: u8) -> bool
+    ensures { λ r. ⌜ r ≡ through settings unit ⌝ }
+{
+    if unit < 4 {
+        let boards = settings.boards;
+        let board = boards[unit as usize];
+        let kind = board.kind;
+        match kind {
+            Kind::Copyback => false,
+            Kind::WriteThrough => true,
+        }
+    } else {
+        false
+    }
 }
 
 // The first of the four units whose slot has the block EM, or 4.
@@ -95,10 +128,9 @@ fn first_modified(w: Slot, x: Slot, y: Slot, z: Slot, block: u8) -> u8
 }
 
 // The unit that has the block EM, or 4.
-pub fn owner(directory: Directory, block: u8) -> u8
-    ensures { λ r. ⌜ r ≡ ownerOf directory block ⌝ }
+pub fn owner(slots: [Entry; 64], block: u8) -> u8
+    ensures { λ r. ⌜ r ≡ ownerOf (ofSlots slots) block ⌝ }
 {
-    let slots = directory.slots;
     let s = (block % 16) as usize;
     let w = slots[s];
     let x = slots[16 + s];
@@ -111,7 +143,7 @@ pub fn owner(directory: Directory, block: u8) -> u8
     first_modified(ws, xs, ys, zs, block)
 }
 
-// The slot of unit v once unit u claims the block: no other unit holds it any more.
+// The slot of unit v once no unit but u holds the block.
 fn release(slot: Slot, block: u8, v: u8, u: u8) -> Slot
     ensures { λ r. ⌜ r ≡ released slot block v u ⌝ }
 {
@@ -126,23 +158,42 @@ fn release(slot: Slot, block: u8, v: u8, u: u8) -> Slot
 }
 
 // The four units' slots s become w, x, y and z.
-fn set_column(directory: Directory, s: usize, w: Slot, x: Slot, y: Slot, z: Slot) -> Directory
+fn set_column(slots: [Entry; 64], s: usize, w: Slot, x: Slot, y: Slot, z: Slot) -> [Entry; 64]
     requires { ⌜ s < 16 ⌝ }
-    ensures { λ r. ⌜ r ≡ setColumn directory s w x y z ⌝ }
+    ensures { λ r. ⌜ r ≡ setColumn (ofSlots slots) s w x y z .slots ⌝ }
 {
-    let mut left = directory;
-    left.slots[s] = Entry { slot: w };
-    left.slots[16 + s] = Entry { slot: x };
-    left.slots[32 + s] = Entry { slot: y };
-    left.slots[48 + s] = Entry { slot: z };
+    let mut left = slots;
+    left[s] = Entry { slot: w };
+    left[16 + s] = Entry { slot: x };
+    left[32 + s] = Entry { slot: y };
+    left[48 + s] = Entry { slot: z };
     left
 }
 
-// The directory once the unit claims the block. The four slots are read before any is written.
-pub fn claimed(directory: Directory, unit: u8, block: u8) -> Directory
-    ensures { λ r. ⌜ r ≡ claimedAtOnce unit block directory ⌝ }
+// The slots once no unit but this holds the block. The four slots are read before any is written.
+pub fn expelled(slots: [Entry; 64], unit: u8, block: u8) -> [Entry; 64]
+    ensures { λ r. ⌜ r ≡ expelledAtOnce unit block (ofSlots slots) .slots ⌝ }
 {
-    let slots = directory.slots;
+    let s = (block % 16) as usize;
+    let w = slots[s];
+    let x = slots[16 + s];
+    let y = slots[32 + s];
+    let z = slots[48 + s];
+    let ws = w.slot;
+    let xs = x.slot;
+    let ys = y.slot;
+    let zs = z.slot;
+    let wl = release(ws, block, 0, unit);
+    let xl = release(xs, block, 1, unit);
+    let yl = release(ys, block, 2, unit);
+    let zl = release(zs, block, 3, unit);
+    set_column(slots, s, wl, xl, yl, zl)
+}
+
+// The slots once the unit claims the block. It does not call `expelled`, whose answer would pass through memory (docs/PERFORMANCE.md).
+pub fn claimed(slots: [Entry; 64], unit: u8, block: u8) -> [Entry; 64]
+    ensures { λ r. ⌜ r ≡ claimedAtOnce unit block (ofSlots slots) .slots ⌝ }
+{
     let s = (block % 16) as usize;
     let w = slots[s];
     let x = slots[16 + s];
@@ -156,18 +207,25 @@ pub fn claimed(directory: Directory, unit: u8, block: u8) -> Directory
     let x2 = release(xs, block, 1, unit);
     let y2 = release(ys, block, 2, unit);
     let z2 = release(zs, block, 3, unit);
-    let left = set_column(directory, s, w2, x2, y2, z2);
+    let left = set_column(slots, s, w2, x2, y2, z2);
     set_slot(left, place_of(unit, block), Slot::Modified(block))
 }
 
-// Slot n has the block SU, and the holder, where it is a unit, too.
-pub fn fetched(directory: Directory, n: usize, holder: u8, block: u8) -> Directory
-    ensures { λ r. ⌜ r ≡ fetchedDirectory n block holder directory ⌝ }
+// The holder, where it is a unit, has the block SU.
+pub fn yielded(slots: [Entry; 64], holder: u8, block: u8) -> [Entry; 64]
+    ensures { λ r. ⌜ r ≡ yieldedDirectory block holder (ofSlots slots) .slots ⌝ }
 {
     if holder < 4 {
-        let yielded = set_slot(directory, place_of(holder, block), Slot::Shared(block));
-        set_slot(yielded, n, Slot::Shared(block))
+        set_slot(slots, place_of(holder, block), Slot::Shared(block))
     } else {
-        set_slot(directory, n, Slot::Shared(block))
+        slots
     }
+}
+
+// And slot n too.
+pub fn fetched(slots: [Entry; 64], n: usize, holder: u8, block: u8) -> [Entry; 64]
+    ensures { λ r. ⌜ r ≡ fetchedDirectory n block holder (ofSlots slots) .slots ⌝ }
+{
+    let left = yielded(slots, holder, block);
+    set_slot(left, n, Slot::Shared(block))
 }

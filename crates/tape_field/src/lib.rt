@@ -7,7 +7,7 @@ use tape_format::Rule;
 ghost use mathlib.Core.Path.{_≡_};
 ghost use Rattle.tape_format.specs.Field.{retriedMost, allowed, fieldAt};
 
-// Only a read and a modified read can be retried.
+// Only a read, a modified read and a memory write can be retried.
 fn retried_most(command: Command) -> u64
     ensures { λ r. ⌜ r ≡ retriedMost command ⌝ }
 {
@@ -16,6 +16,7 @@ fn retried_most(command: Command) -> u64
         Command::ModifiedRead => 1,
         Command::Invalidate => 0,
         Command::Copyback => 0,
+        Command::MemoryWrite => 1,
     }
 }
 

@@ -68,6 +68,7 @@ retried-most command.Read = omega arith
 retried-most command.ModifiedRead = omega arith
 retried-most command.Invalidate = omega arith
 retried-most command.Copyback = omega arith
+retried-most command.MemoryWrite = omega arith
 
 pub allowed-most : (rule : Rule) (n : ℕ) → allowed rule n ≡ true → n ≤ mostOf rule
 unfolding allowed

@@ -15,7 +15,7 @@ use Rattle.order.specs.declared.CommandFound.{CommandFound}
 use Rattle.order.specs.declared.CommandFound.the-variants.{Known, Unknown}
 use Rattle.order.specs.Command.{commandNumber, commandOf}
 use Rattle.order.specs.Refusal.{unknownKind}
-use Rattle.order.proofs.CommandLaws.{command-of-number}
+use Rattle.order.proofs.CommandLaws.{command-of-number, number-of-command, command-small}
 use Rattle.number.specs.declared.NumberRead.{NumberRead}
 use Rattle.number.specs.declared.NumberRead.the-variants.{Number, Refused}
 use Rattle.tape_format.specs.declared.Rule.the-variants.{Retried, Flag}
@@ -32,26 +32,6 @@ use Rattle.tape_format.specs.Write.{valid}
 use Rattle.number.proofs.NumberLaws.{limit, limit-64-bits, number-moves}
 use Rattle.tape_format.proofs.FieldLaws.{both-true, field-number, field-allowed, allowed-most, allowed-64-bits}
 use Rattle.tape_format.proofs.ReadLaws.{then, of-kind}
-
--- a command that a number has has that number
-pub number-of-command : (n : ℕ) (c : Command) → commandOf n ≡ Known c → commandNumber c ≡ n
-unfolding commandOf commandNumber
-number-of-command n c e = go (eqb n 0) refl (eqb n 1) refl (eqb n 2) refl (eqb n 3) refl e
-  where
-    go : (t₀ : Bool) → eqb n 0 ≡ t₀ → (t₁ : Bool) → eqb n 1 ≡ t₁ → (t₂ : Bool) → eqb n 2 ≡ t₂ → (t₃ : Bool) → eqb n 3 ≡ t₃
-        → cond t₀ (Known command-names.Read) (cond t₁ (Known command-names.ModifiedRead) (cond t₂ (Known command-names.Invalidate) (cond t₃ (Known command-names.Copyback) Unknown))) ≡ Known c → commandNumber c ≡ n
-    go true a t₁ b t₂ d t₃ f e = let x : command-names.Read ≡ c = cc in rw (← x) (sym (eqb-true n 0 a))
-    go false a true b t₂ d t₃ f e = let x : command-names.ModifiedRead ≡ c = cc in rw (← x) (sym (eqb-true n 1 b))
-    go false a false b true d t₃ f e = let x : command-names.Invalidate ≡ c = cc in rw (← x) (sym (eqb-true n 2 d))
-    go false a false b false d true f e = let x : command-names.Copyback ≡ c = cc in rw (← x) (sym (eqb-true n 3 f))
-    go false a false b false d false f e = absurd (let z : _≡_ {A = ℕ} 0 1 = cc in omega arith)
-
-pub command-small : (c : Command) → commandNumber c ≤ 3
-unfolding commandNumber
-command-small command-names.Read = omega arith
-command-small command-names.ModifiedRead = omega arith
-command-small command-names.Invalidate = omega arith
-command-small command-names.Copyback = omega arith
 
 -- the numbers ns, put into a layout's fields, make the record r
 abbrev Makes : Layout → List ℕ → Record → Type 0

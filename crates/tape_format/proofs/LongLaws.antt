@@ -12,6 +12,7 @@ use Rattle.order.specs.declared.Command.{Command}
 use Rattle.order.specs.declared.CommandFound.{CommandFound}
 use Rattle.order.specs.declared.CommandFound.the-variants.{Known, Unknown}
 use Rattle.order.specs.Command.{commandOf}
+use Rattle.order.proofs.CommandLaws.{number-of-command, command-small}
 use Rattle.number.specs.declared.NumberRead.the-variants.{Number}
 use Rattle.number.specs.Number.{numberAt}
 use Rattle.number.proofs.NumberLaws.{number-moves}
@@ -23,7 +24,7 @@ use Rattle.tape_format.specs.Refused.{Reads}
 use Rattle.tape_format.specs.Ranges.{RefusesKinds, RefusesLong}
 use Rattle.tape_format.proofs.FieldLaws.{both-true, field-allowed, field-banned, mostOf, allowed-most}
 use Rattle.tape_format.proofs.ReadLaws.{on, stop, on-command, no-command, then, of-kind, of-no-kind}
-use Rattle.tape_format.proofs.LayoutLaws.{number-of-command, command-small, inv-fits, by-kind, known, valid-fits, in-table}
+use Rattle.tape_format.proofs.LayoutLaws.{inv-fits, by-kind, known, valid-fits, in-table}
 use Rattle.tape_format.proofs.RangeLaws.{range-valid}
 
 -- each field of a layout holds 32 bits at most

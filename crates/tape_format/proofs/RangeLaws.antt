@@ -10,7 +10,7 @@ use lib.ListN.{length}
 use lib.Dec.{leb, eqb}
 use borrow.Author.Tests.{leb-true, le-leb, lt-leb, eqb-true, eq-eqb, ne-eqb}
 use Rattle.order.specs.declared.Command.{Command}
-use Rattle.order.specs.declared.Command.the-variants.{Read, ModifiedRead, Invalidate, Copyback}
+use Rattle.order.specs.declared.Command.the-variants.{Read, ModifiedRead, Invalidate, Copyback, MemoryWrite}
 use Rattle.order.specs.Command.{commandNumber}
 use Rattle.order.specs.Flag.{flag}
 use Rattle.order.proofs.CommandLaws.{command-of-number}
@@ -61,6 +61,7 @@ may-retry Invalidate false h = λ e. refl
 may-retry Invalidate true h = absurd (false≢true h)
 may-retry Copyback false h = λ e. refl
 may-retry Copyback true h = absurd (false≢true h)
+may-retry MemoryWrite b h = ⊎-elim (λ (e : _≡_ {A = ℕ} 4 2). absurd (omega arith)) (λ (e : _≡_ {A = ℕ} 4 3). absurd (omega arith))
 
 retry : (c : Command) (b : Bool) → ((commandNumber c ≡ 2) ⊎ (commandNumber c ≡ 3) → b ≡ false) → allowed (Retried c) (flag b) ≡ true
 unfolding allowed retriedMost flag commandNumber
@@ -72,6 +73,8 @@ retry Invalidate false h = refl
 retry Invalidate true h = sym (h (inl refl))
 retry Copyback false h = refl
 retry Copyback true h = sym (h (inr refl))
+retry MemoryWrite false h = refl
+retry MemoryWrite true h = refl
 
 -- ---- a record is valid if and only if it is in range
 

@@ -6,7 +6,7 @@ use mathlib.Core.Bool.{Bool, true, false}
 use mathlib.Core.List.{List, [], _∷_, _++_, map}
 use lib.ListN.{length, replicate}
 use Rattle.order.specs.declared.Command.{Command}
-use Rattle.order.specs.declared.Command.the-variants.{Read, ModifiedRead, Invalidate, Copyback}
+use Rattle.order.specs.declared.Command.the-variants.{Read, ModifiedRead, Invalidate, Copyback, MemoryWrite}
 use Rattle.number.specs.Number.{Told}
 use Rattle.tape_format.specs.declared.Record.{Record}
 use Rattle.tape_format.specs.declared.Record.the-variants as rec
@@ -47,6 +47,8 @@ pub record Examples : Type 0 where
   pub modifiedRead : Spelled (0x03 ∷ 0x00 ∷ 0x01 ∷ 0x28 ∷ 0x01 ∷ []) (ordered 0 ModifiedRead 40 true)
   pub invalidate : Spelled (0x03 ∷ 0x01 ∷ 0x02 ∷ 0x28 ∷ 0x00 ∷ []) (ordered 1 Invalidate 40 false)
   pub copyback : Spelled (0x03 ∷ 0x02 ∷ 0x03 ∷ 0x28 ∷ 0x00 ∷ []) (ordered 2 Copyback 40 false)
+  pub memoryWrite : Spelled (0x03 ∷ 0x01 ∷ 0x04 ∷ 0x28 ∷ 0x00 ∷ []) (ordered 1 MemoryWrite 40 false)
+  pub writeRetried : Spelled (0x03 ∷ 0x01 ∷ 0x04 ∷ 0x28 ∷ 0x01 ∷ []) (ordered 1 MemoryWrite 40 true)
   pub kind4 : Spelled (0x04 ∷ 0x01 ∷ 0x02 ∷ 0xC8 ∷ 0x01 ∷ 0x83 ∷ 0x01 ∷ []) (rec.Answer 1 2 200 131)
   pub kind5 : Spelled (0x05 ∷ 0x07 ∷ 0x06 ∷ 0x09 ∷ 0x01 ∷ 0xAC ∷ 0x02 ∷ 0x04 ∷ []) (rec.Register 7 6 9 true 300 4)
   pub registerRead : Spelled (0x05 ∷ 0x01 ∷ 0x03 ∷ 0x09 ∷ 0x00 ∷ 0xAC ∷ 0x02 ∷ 0x04 ∷ []) (rec.Register 1 3 9 false 300 4)
@@ -61,11 +63,12 @@ pub record Examples : Type 0 where
       ∷ (0x02 ∷ 0x03 ∷ 0x3F ∷ [])
       ∷ (0x03 ∷ 0x03 ∷ 0x01 ∷ 0x3F ∷ 0x01 ∷ [])
       ∷ (0x03 ∷ 0x03 ∷ 0x03 ∷ 0x3F ∷ 0x00 ∷ [])
+      ∷ (0x03 ∷ 0x03 ∷ 0x04 ∷ 0x3F ∷ 0x01 ∷ [])
       ∷ (0x04 ∷ 0x07 ∷ 0x06 ∷ 0xFF ∷ 0x01 ∷ 0xFF ∷ 0x01 ∷ [])
       ∷ (0x05 ∷ 0x06 ∷ 0x07 ∷ 0xFF ∷ 0x01 ∷ 0x01 ∷ 0xFF ∷ 0xFF ∷ 0xFF ∷ 0xFF ∷ 0x0F ∷ 0x07 ∷ [])
       ∷ (0x06 ∷ 0x03 ∷ 0xFF ∷ 0xFF ∷ 0xFF ∷ 0xFF ∷ 0x0F ∷ [])
       ∷ [])
-      ≡ replicate 8 0
+      ≡ replicate 9 0
   -- and one above it, field by field: refusal 8 "where the refused number starts". Unit, address (and one that is no multiple of 4)
   pub above0 : map toldOf ((0x00 ∷ 0x04 ∷ 0x00 ∷ []) ∷ (0x00 ∷ 0x00 ∷ 0x80 ∷ 0x10 ∷ []) ∷ (0x00 ∷ 0x00 ∷ 0x02 ∷ []) ∷ []) ≡ map (refusedAt 8) (1 ∷ 2 ∷ 2 ∷ [])
   pub above1 : map toldOf ((0x01 ∷ 0x04 ∷ 0x00 ∷ 0x00 ∷ []) ∷ (0x01 ∷ 0x00 ∷ 0x80 ∷ 0x10 ∷ 0x00 ∷ []) ∷ (0x01 ∷ 0x00 ∷ 0x02 ∷ 0x00 ∷ []) ∷ []) ≡ map (refusedAt 8) (1 ∷ 2 ∷ 2 ∷ [])
@@ -75,13 +78,14 @@ pub record Examples : Type 0 where
   pub above3 :
       map toldOf
       ((0x03 ∷ 0x04 ∷ 0x00 ∷ 0x00 ∷ 0x00 ∷ [])
-      ∷ (0x03 ∷ 0x00 ∷ 0x04 ∷ 0x00 ∷ 0x00 ∷ [])
+      ∷ (0x03 ∷ 0x00 ∷ 0x05 ∷ 0x00 ∷ 0x00 ∷ [])
       ∷ (0x03 ∷ 0x00 ∷ 0x00 ∷ 0x40 ∷ 0x00 ∷ [])
       ∷ (0x03 ∷ 0x00 ∷ 0x00 ∷ 0x00 ∷ 0x02 ∷ [])
       ∷ (0x03 ∷ 0x00 ∷ 0x02 ∷ 0x00 ∷ 0x01 ∷ [])
       ∷ (0x03 ∷ 0x00 ∷ 0x03 ∷ 0x00 ∷ 0x01 ∷ [])
+      ∷ (0x03 ∷ 0x00 ∷ 0x04 ∷ 0x00 ∷ 0x02 ∷ [])
       ∷ [])
-      ≡ map (refusedAt 8) (1 ∷ 2 ∷ 3 ∷ 4 ∷ 4 ∷ 4 ∷ [])
+      ≡ map (refusedAt 8) (1 ∷ 2 ∷ 3 ∷ 4 ∷ 4 ∷ 4 ∷ 4 ∷ [])
   -- from, to, a `to` that clashes with `from`, AID, code
   pub above4 :
       map toldOf

@@ -12,12 +12,13 @@ use Rattle.tape_format.specs.declared.Rule.{Rule}
 use Rattle.tape_format.specs.declared.Rule.the-variants.{Unit, Address, Word, Block, Retried, From, To, Byte, Flag, Bct, Cycles}
 use Rattle.number.specs.Number.{numberAt}
 
--- "retried must be 0 for 2 and 3": an invalidate and a copyback
+-- "retried must be 0 for 2 and 3": an invalidate and a copyback; "Order records take command 4, retried 0 or 1"
 unfoldable pub retriedMost : Command → ℕ
 retriedMost command.Read = 1
 retriedMost command.ModifiedRead = 1
 retriedMost command.Invalidate = 0
 retriedMost command.Copyback = 0
+retriedMost command.MemoryWrite = 1
 
 -- the numbers that each rule allows
 unfoldable pub allowed : Rule → ℕ → Bool

@@ -1,9 +1,11 @@
 -- `capi_machine::trainer_cold_start` meets its contract.
-use borrow.Author.Needs.{needs}
-use borrow.Author.Tests.{le-leb, lt-leb}
+use mathlib.Core.Path.{sym}
+use mathlib.Core.Logic.{inl, inr}
+use borrow.Author.Tests.{le-leb}
 use Rattle.coherence.specs.Calls.{startAnswer}
-use Rattle.layout.specs.Directory.{directoryPut}
-use Rattle.capi_machine.specs.Start.{startReturned, startCache}
+use Rattle.capi_machine.specs.Start.{startReturned, startCache, startDirectory}
+use Rattle.capi_machine.proofs.StartLaws.{starts}
+use borrow.Author.Needs.{needs}
 use Rattle.capi_machine.proofs.trainer_cold_start.Statement.{statement}
 use Rattle.capi_machine.proofs.trainer_cold_start.Tie as tie
 
@@ -11,8 +13,23 @@ cast-result : tie.Need-cast-result
 cast-result c = search needs
 
 returns : tie.Need-returns
-unfolding startReturned startCache directoryPut
-returns c = let e = lt-leb 128 _ (c .if1 .taken) in (rw e, rw e, rw e)
+returns c =
+    let h = c .if1 .taken in
+    (sym (starts _ _ _ _ .noRoom h), sym (starts _ _ _ _ .stays (inl h) .0), sym (starts (c .before .before .before .before .args .memory .now) (c .before .before .before .before .args .cache .now) _ _ .stays (inl h) .1))
+
+cast-result-2 : tie.Need-cast-result-2
+cast-result-2 c = search needs
+
+returns-2 : tie.Need-returns-2
+returns-2 c =
+    let h = c .if2 .taken in
+    (sym (starts _ _ _ _ .noUnit (c .before .if1 .left) h), sym (starts _ _ _ _ .stays (inr h) .0), sym (starts (c .before .before .before .before .before .args .memory .now) (c .before .before .before .before .before .args .cache .now) _ _ .stays (inr h) .1))
+
+cast-settings-of : tie.Need-cast-settings-of
+cast-settings-of c = search needs
+
+settings-of-requires : tie.Need-settings-of-requires
+settings-of-requires c κs = search needs
 
 cold-start-requires : tie.Need-cold-start-requires
 cold-start-requires c κs = search needs
@@ -20,8 +37,8 @@ cold-start-requires c κs = search needs
 encode-requires : tie.Need-encode-requires
 encode-requires c κs = search needs
 
-cast-result-2 : tie.Need-cast-result-2
-cast-result-2 c = search needs
+cast-result-3 : tie.Need-cast-result-3
+cast-result-3 c = search needs
 
 same-length : tie.Need-same-length
 same-length c = search needs
@@ -29,22 +46,13 @@ same-length c = search needs
 same-length-2 : tie.Need-same-length-2
 same-length-2 c = search needs
 
-returns-2 : tie.Need-returns-2
-unfolding startReturned startCache startAnswer
-returns-2 c =
-    let e = le-leb 128 _ (c .before .before .before .before .before .before .before .before .before .before .if1 .left) in
-    let s = c .before .before .before .before .before .before .before .before .cold-start .ensures in
-    (rw (e, s .0), rw e (s .1), rw (s .0) at (c .before .before .before .encode .ensures))
+returns-3 : tie.Need-returns-3
+unfolding startReturned startCache startDirectory startAnswer
+returns-3 c =
+    let e = le-leb 129 _ (c .before .before .before .before .before .before .before .before .before .before .before .before .if1 .left) in
+    let f = le-leb _ 15 (c .before .before .before .before .before .before .before .before .before .before .before .if2 .left) in
+    let s = rw (c .before .before .before .before .before .before .before .before .before .before .settings-of .ensures) at (c .before .before .before .before .before .before .before .before .cold-start .ensures) in
+    (rw (e, f, s .0), rw (e, f) (s .1), rw f (rw (s .0) at (c .before .before .before .encode .ensures)))
 
 pub trainer-cold-start-spec : {M : Type 1} → statement M
-trainer-cold-start-spec =
-    tie.close
-    (tie.spec
-    cast-result
-    returns
-    cold-start-requires
-    encode-requires
-    cast-result-2
-    same-length
-    same-length-2
-    returns-2)
+trainer-cold-start-spec = tie.close (tie.spec cast-result returns cast-result-2 returns-2 cast-settings-of settings-of-requires cold-start-requires encode-requires cast-result-3 same-length same-length-2 returns-3)

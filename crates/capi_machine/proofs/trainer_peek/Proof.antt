@@ -1,15 +1,16 @@
 -- `capi_machine::trainer_peek` meets its contract.
-use borrow.Author.Needs.{needs}
 use borrow.Author.Tests.{ne-eqb}
-use mathlib.Core.Path.{_≡_}
+use mathlib.Core.Path.{_≡_, _∙_}
 use mathlib.Core.Bool.{false}
 use lib.Dec.{eqb}
 use Rattle.coherence.specs.Refusal.{peekRefusal}
 use Rattle.coherence.specs.Slots.{ownerOf}
+use Rattle.slots.proofs.OfSlots.{of-owner}
 use Rattle.layout.specs.Directory.{decoded}
 use Rattle.capi_machine.specs.Call.{narrowed}
 use Rattle.capi_machine.specs.Place.{peekReturned, storeLeft, offsetLeft}
 use Rattle.capi_machine.proofs.PlaceLaws.{from-cache, from-memory}
+use borrow.Author.Needs.{needs}
 use Rattle.capi_machine.proofs.trainer_peek.Statement.{statement}
 use Rattle.capi_machine.proofs.trainer_peek.Tie as tie
 
@@ -53,46 +54,29 @@ mul-offset-2 c = search needs
 add-offset : tie.Need-add-offset
 add-offset c = search needs
 
-returns-2 : tie.Need-returns-2
-returns-2 c =
-    let a = c .before .before .before .before .before .before .before .before .before .args in
-    let r : c .before .before .before .peek-refusal .result ≡ peekRefusal (decoded (a .directory .now)) (a .memory .now) (a .cache .now) (narrowed (a .block)) =
-    rw (c .before .before .before .before .before .decode .ensures, c .before .before .before .before .byte .ensures) at (c .before .before .before .peek-refusal .ensures) in
-    let o : c .before .owner .result ≡ ownerOf (decoded (a .directory .now)) (narrowed (a .block)) =
-    rw (c .before .before .before .before .before .decode .ensures, c .before .before .before .before .byte .ensures) at (c .before .owner .ensures) in
-    rw (c .before .before .before .before .byte .ensures) (from-cache (a .directory .now) (a .memory .now) (a .cache .now) (a .block) _ _ _ _ r (c .before .before .if1 .left) o (c .if2 .taken))
-
 cast-offset-3 : tie.Need-cast-offset-3
 cast-offset-3 c = search needs
 
 mul-offset-3 : tie.Need-mul-offset-3
 mul-offset-3 c = search needs
 
+returns-2 : tie.Need-returns-2
+returns-2 c =
+    let a = c .before .before .before .before .before .before .before .before .before .before .args in
+    let r : c .before .before .before .before .peek-refusal .result ≡ peekRefusal (decoded (a .directory .now)) (a .memory .now) (a .cache .now) (narrowed (a .block)) =
+    rw (c .before .before .before .before .before .before .decode .ensures, c .before .before .before .before .before .byte .ensures) at (c .before .before .before .before .peek-refusal .ensures) in
+    let o : c .before .owner .result ≡ ownerOf (decoded (a .directory .now)) (narrowed (a .block)) =
+    rw (c .before .before .before .before .before .before .decode .ensures, c .before .before .before .before .before .byte .ensures) at (c .before .owner .ensures ∙ of-owner (c .before .before .before .before .before .before .decode .result) _) in
+    rw (c .before .before .before .before .before .byte .ensures) (from-cache (a .directory .now) (a .memory .now) (a .cache .now) (a .block) _ _ _ _ r (c .before .before .before .if1 .left) o (c .if2 .taken))
+
 returns-3 : tie.Need-returns-3
 returns-3 c =
-    let a = c .before .before .before .before .before .before .before .before .before .args in
-    let r : c .before .before .before .peek-refusal .result ≡ peekRefusal (decoded (a .directory .now)) (a .memory .now) (a .cache .now) (narrowed (a .block)) =
-    rw (c .before .before .before .before .before .decode .ensures, c .before .before .before .before .byte .ensures) at (c .before .before .before .peek-refusal .ensures) in
+    let a = c .before .before .before .before .before .before .before .before .before .before .args in
+    let r : c .before .before .before .before .peek-refusal .result ≡ peekRefusal (decoded (a .directory .now)) (a .memory .now) (a .cache .now) (narrowed (a .block)) =
+    rw (c .before .before .before .before .before .before .decode .ensures, c .before .before .before .before .before .byte .ensures) at (c .before .before .before .before .peek-refusal .ensures) in
     let o : c .before .owner .result ≡ ownerOf (decoded (a .directory .now)) (narrowed (a .block)) =
-    rw (c .before .before .before .before .before .decode .ensures, c .before .before .before .before .byte .ensures) at (c .before .owner .ensures) in
-    rw (c .before .before .before .before .byte .ensures) (from-memory (a .directory .now) (a .memory .now) (a .cache .now) (a .block) _ _ _ _ r (c .before .before .if1 .left) o (c .if2 .left))
+    rw (c .before .before .before .before .before .before .decode .ensures, c .before .before .before .before .before .byte .ensures) at (c .before .owner .ensures ∙ of-owner (c .before .before .before .before .before .before .decode .result) _) in
+    rw (c .before .before .before .before .before .byte .ensures) (from-memory (a .directory .now) (a .memory .now) (a .cache .now) (a .block) _ _ _ _ r (c .before .before .before .if1 .left) o (c .if2 .left))
 
 pub trainer-peek-spec : {M : Type 1} → statement M
-trainer-peek-spec =
-    tie.close
-    (tie.spec
-    decode-requires
-    byte-requires
-    peek-refusal-requires
-    cast-result
-    returns
-    owner-requires
-    cast-offset
-    mul-offset
-    cast-offset-2
-    mul-offset-2
-    add-offset
-    cast-offset-3
-    mul-offset-3
-    returns-2
-    returns-3)
+trainer-peek-spec = tie.close (tie.spec decode-requires byte-requires peek-refusal-requires cast-result returns owner-requires cast-offset mul-offset cast-offset-2 mul-offset-2 add-offset cast-offset-3 mul-offset-3 returns-2 returns-3)

@@ -31,6 +31,9 @@ returns-2 c =
     let p = c .before .before .put-refused2 .ensures in
     rw (c .before .before .before .before .before .if1 .left, long-text (c .before .before .before .before .before .before .before .before .args .tape .now) (c .before .before .before .before .if2 .taken)) (p .0, omega (arith, p .1))
 
+drill-settings-requires : tie.Need-drill-settings-requires
+drill-settings-requires c κs = search needs
+
 slice-aggregate-cold-start : tie.Need-slice-aggregate-cold-start
 slice-aggregate-cold-start c = search needs
 
@@ -56,9 +59,9 @@ returns-3 : tie.Need-returns-3
 unfolding printed zeroStore
 returns-3 c =
     let zeros = started-cache _ _ _ refl refl (c .before .before .before .before .before .before .before .before .before .before .cold-start .ensures .1) in
-    let directory = started-directory _ _ _ (c .before .before .before .before .before .before .before .before .before .before .cold-start .ensures .0) in
-    let text = whole-text (c .before .before .before .before .before .before .before .before .before .before .before .before .before .before .before .before .before .args .tape .now) _ _ _ (c .before .before .before .before .before .before .before .before .before .before .before .before .before .if2 .left) directory refl zeros in
-    rw (c .before .before .before .before .before .before .before .before .before .before .before .before .before .before .if1 .left) (rw text at (c .before .before .before .before .run-tape .ensures .0), c .before .before .before .before .run-tape .ensures .1)
+    let directory = started-directory _ _ _ _ (c .before .before .before .before .before .before .before .before .before .before .cold-start .ensures .0) (c .before .before .before .before .before .before .before .before .before .before .before .before .before .drill-settings .ensures) in
+    let text = whole-text (c .before .before .before .before .before .before .before .before .before .before .before .before .before .before .before .before .before .before .args .tape .now) _ _ _ (c .before .before .before .before .before .before .before .before .before .before .before .before .before .before .if2 .left) directory refl zeros in
+    rw (c .before .before .before .before .before .before .before .before .before .before .before .before .before .before .before .if1 .left) (rw text at (c .before .before .before .before .run-tape .ensures .0), c .before .before .before .before .run-tape .ensures .1)
 
 pub play-spec : {M : Type 1} → statement M
-play-spec = tie.close (tie.spec put-refused-requires same-length returns put-refused-requires-2 same-length-2 returns-2 slice-aggregate-cold-start slice-aggregate-cold-start-2 cold-start-requires slice-aggregate-run-tape slice-aggregate-run-tape-2 run-tape-requires same-length-3 returns-3)
+play-spec = tie.close (tie.spec put-refused-requires same-length returns put-refused-requires-2 same-length-2 returns-2 drill-settings-requires slice-aggregate-cold-start slice-aggregate-cold-start-2 cold-start-requires slice-aggregate-run-tape slice-aggregate-run-tape-2 run-tape-requires same-length-3 returns-3)

@@ -31,6 +31,9 @@ returns-2 c =
     let p = c .before .put-refused2 .ensures in
     rw (c .before .before .before .before .if1 .left, long-text (c .before .before .before .before .before .before .args .tape .now) (c .before .before .before .if2 .taken)) (counted _ _ _ _ (p .0), omega (arith, p .1))
 
+drill-settings-requires : tie.Need-drill-settings-requires
+drill-settings-requires c κs = search needs
+
 slice-aggregate-cold-start : tie.Need-slice-aggregate-cold-start
 slice-aggregate-cold-start c = search needs
 
@@ -57,26 +60,10 @@ unfolding printed zeroStore
 returns-3 c =
     let start = c .before .before .before .before .before .before .before .before .before .cold-start .ensures in
     let zeros = started-cache _ _ _ refl refl (start .1) in
-    let directory = started-directory _ _ _ (start .0) in
-    let text = whole-text (c .before .before .before .before .before .before .before .before .before .before .before .before .before .before .before .args .tape .now) _ _ _ (c .before .before .before .before .before .before .before .before .before .before .before .before .if2 .left) directory refl zeros in
+    let directory = started-directory _ _ _ _ (start .0) (c .before .before .before .before .before .before .before .before .before .before .before .before .drill-settings .ensures) in
+    let text = whole-text (c .before .before .before .before .before .before .before .before .before .before .before .before .before .before .before .before .args .tape .now) _ _ _ (c .before .before .before .before .before .before .before .before .before .before .before .before .before .if2 .left) directory refl zeros in
     let run = c .before .before .before .run-tape .ensures in
-    rw (c .before .before .before .before .before .before .before .before .before .before .before .before .before .if1 .left) (counted _ _ _ _ (rw text at (run .0)), run .1)
+    rw (c .before .before .before .before .before .before .before .before .before .before .before .before .before .before .if1 .left) (counted _ _ _ _ (rw text at (run .0)), run .1)
 
 pub text-size-spec : {M : Type 1} → statement M
-text-size-spec =
-    tie.close
-    (tie.spec
-    slice-aggregate-put-refused
-    put-refused-requires
-    returns
-    slice-aggregate-put-refused-2
-    put-refused-requires-2
-    returns-2
-    slice-aggregate-cold-start
-    slice-aggregate-cold-start-2
-    cold-start-requires
-    slice-aggregate-run-tape
-    slice-aggregate-run-tape-2
-    slice-aggregate-run-tape-3
-    run-tape-requires
-    returns-3)
+text-size-spec = tie.close (tie.spec slice-aggregate-put-refused put-refused-requires returns slice-aggregate-put-refused-2 put-refused-requires-2 returns-2 drill-settings-requires slice-aggregate-cold-start slice-aggregate-cold-start-2 cold-start-requires slice-aggregate-run-tape slice-aggregate-run-tape-2 slice-aggregate-run-tape-3 run-tape-requires returns-3)

@@ -3,6 +3,7 @@ use mathlib.Core.Path.{refl, sym, _∙_}
 use Rattle.coherence.specs.Calls.{unitOf, isTarget, refusal, act, loaded}
 use Rattle.coherence.specs.Refusal.{isBlock}
 use Rattle.coherence.specs.declared.Call.the-variants.{Flush}
+use Rattle.slots.proofs.OfSlots.{of-slot, of-set}
 use Rattle.machine.proofs.Refusals.{known}
 use Rattle.machine.proofs.Accesses.{flush-held, flush-missed}
 use Rattle.machine.proofs.Calls.{comes-to, refuses}
@@ -58,13 +59,13 @@ same-length-2 c = search needs
 returns-2 : tie.Need-returns-2
 unfolding refusal unitOf isTarget isBlock act loaded
 returns-2 c =
-    let a = c .before .before .before .before .before .before .before .before .before .before .before .before .before .before .before .before .args in
-    let z = sym (c .before .before .before .before .before .before .before .before .before .before .before .before .refusal-of .ensures) ∙ c .before .before .before .before .before .before .before .before .before .before .before .if1 .left in
+    let a = c .before .before .before .before .before .before .before .before .before .before .before .before .before .before .before .before .before .before .args in
+    let z = sym (c .before .before .before .before .before .before .before .before .before .before .before .before .before .before .refusal-of .ensures) ∙ c .before .before .before .before .before .before .before .before .before .before .before .before .before .if1 .left in
     let q = known _ _ _ _ (isBlock (a .block)) z in
     let n = c .before .before .before .before .before .before .before .before .before .before .place-of .ensures in
-    let s = rw n at (c .before .before .before .before .before .before .before .before .before .slot-at .ensures) in
+    let s = (rw n at (c .before .before .before .before .before .before .before .before .before .slot-at .ensures)) ∙ of-slot (a .directory) _ in
     let h = sym (rw s at (c .before .before .before .before .before .before .before .before .holds-block .ensures)) ∙ c .before .before .before .before .before .before .before .if2 .taken in
-    comes-to _ _ _ (Flush _ _) z (flush-held _ _ _ _ _ _ q h) (c .accepted .ensures) refl (rw s at (c .before .before .eviction-orders .ensures)) (rw n at (c .before .set-slot .ensures))
+    comes-to _ _ _ (Flush _ _) z (flush-held _ _ _ _ _ _ q h) (c .accepted .ensures) refl (rw s at (c .before .before .eviction-orders .ensures)) (of-set (a .directory) _ _ (rw n at (c .before .set-slot .ensures)))
     (rw (s, n) at (c .before .before .before .before .before .evict-bytes .ensures)) refl
 
 same-length-3 : tie.Need-same-length-3
@@ -73,8 +74,9 @@ same-length-3 c = search needs
 returns-3 : tie.Need-returns-3
 unfolding refusal unitOf isTarget isBlock act loaded
 returns-3 c =
-    let z = sym (c .before .before .before .before .before .before .before .refusal-of .ensures) ∙ c .before .before .before .before .before .before .if1 .left in
-    let s = rw (c .before .before .before .before .before .place-of .ensures) at (c .before .before .before .before .slot-at .ensures) in
+    let a = c .before .before .before .before .before .before .before .before .before .before .before .before .before .args in
+    let z = sym (c .before .before .before .before .before .before .before .before .before .refusal-of .ensures) ∙ c .before .before .before .before .before .before .before .before .if1 .left in
+    let s = (rw (c .before .before .before .before .before .place-of .ensures) at (c .before .before .before .before .slot-at .ensures)) ∙ of-slot (a .directory) _ in
     let h = sym (rw s at (c .before .before .before .holds-block .ensures)) ∙ c .before .before .if2 .left in
     comes-to _ _ _ (Flush _ _) z (flush-missed _ _ _ _ _ h) (c .accepted2 .ensures) refl (c .before .no-orders .ensures) refl refl refl
 

@@ -3,6 +3,7 @@ use native.Mathlib.Omega.{arith}
 use mathlib.Core.Path.{refl, sym, _∙_}
 use Rattle.coherence.specs.Calls.{unitOf, isTarget, refusal, act, loaded}
 use Rattle.coherence.specs.declared.Call.the-variants.{Load}
+use Rattle.slots.proofs.OfSlots.{of-slot, of-owner, of-fetched}
 use Rattle.blocks.proofs.StoreLaws.{length-fetched}
 use Rattle.machine.proofs.Refusals.{known, address-of}
 use Rattle.machine.proofs.Accesses.{load-held, load-missed, loaded-in}
@@ -35,8 +36,8 @@ returns c =
 
 cast-block : tie.Need-cast-block
 cast-block c =
-    let e = rw (c .before .before .is-address .ensures) at (c .before .refusal-of .ensures) in
-    let h = known _ _ _ _ _ (sym e ∙ c .if1 .left) in
+    let e = rw (c .before .before .before .before .is-address .ensures) at (c .before .before .before .refusal-of .ensures) in
+    let h = known _ _ _ _ _ (sym e ∙ c .before .before .if1 .left) in
     omega (arith, address-of _ (h .target) .1)
 
 place-of-requires : tie.Need-place-of-requires
@@ -87,10 +88,11 @@ same-length-4 c = search needs
 returns-2 : tie.Need-returns-2
 unfolding refusal unitOf isTarget act loaded
 returns-2 c =
-    let e = rw (c .before .before .before .before .before .before .before .before .before .before .before .is-address .ensures) at (c .before .before .before .before .before .before .before .before .before .before .refusal-of .ensures) in
-    let z = sym e ∙ c .before .before .before .before .before .before .before .before .before .if1 .left in
+    let a = c .before .before .before .before .before .before .before .before .before .before .before .before .before .before .before .before .before .before .args in
+    let e = rw (c .before .before .before .before .before .before .before .before .before .before .before .before .before .is-address .ensures) at (c .before .before .before .before .before .before .before .before .before .before .before .before .refusal-of .ensures) in
+    let z = sym e ∙ c .before .before .before .before .before .before .before .before .before .before .before .if1 .left in
     let q = known _ _ _ _ _ z in
-    let s = rw (c .before .before .before .before .before .before .before .before .place-of .ensures) at (c .before .before .before .before .before .before .before .slot-at .ensures) in
+    let s = (rw (c .before .before .before .before .before .before .before .before .place-of .ensures) at (c .before .before .before .before .before .before .before .slot-at .ensures)) ∙ of-slot (a .directory) _ in
     let h = sym (rw s at (c .before .before .before .before .before .holds-block .ensures)) ∙ c .before .before .before .before .if2 .taken in
     comes-to _ _ _ (Load _ _) z (load-held _ _ _ _ _ h) (c .accepted .ensures)
     (rw (c .before .before .before .before .before .before .cache-place .ensures) at (c .before .before .word-at .ensures) ∙ loaded-in _ _ _ _ _ _ q refl)
@@ -105,17 +107,18 @@ same-length-6 c = search needs
 returns-3 : tie.Need-returns-3
 unfolding refusal unitOf isTarget act loaded
 returns-3 c =
-    let e = rw (c .before .before .before .before .before .before .before .before .before .before .before .before .before .before .before .before .before .before .before .before .is-address .ensures) at (c .before .before .before .before .before .before .before .before .before .before .before .before .before .before .before .before .before .before .before .refusal-of .ensures) in
-    let z = sym e ∙ c .before .before .before .before .before .before .before .before .before .before .before .before .before .before .before .before .before .before .if1 .left in
+    let a = c .before .before .before .before .before .before .before .before .before .before .before .before .before .before .before .before .before .before .before .before .before .before .before .before .before .before .before .args in
+    let e = rw (c .before .before .before .before .before .before .before .before .before .before .before .before .before .before .before .before .before .before .before .before .before .before .is-address .ensures) at (c .before .before .before .before .before .before .before .before .before .before .before .before .before .before .before .before .before .before .before .before .before .refusal-of .ensures) in
+    let z = sym e ∙ c .before .before .before .before .before .before .before .before .before .before .before .before .before .before .before .before .before .before .before .before .if1 .left in
     let q = known _ _ _ _ _ z in
     let n = c .before .before .before .before .before .before .before .before .before .before .before .before .before .before .before .before .before .place-of .ensures in
-    let s = rw n at (c .before .before .before .before .before .before .before .before .before .before .before .before .before .before .before .before .slot-at .ensures) in
+    let s = (rw n at (c .before .before .before .before .before .before .before .before .before .before .before .before .before .before .before .before .slot-at .ensures)) ∙ of-slot (a .directory) _ in
     let h = sym (rw s at (c .before .before .before .before .before .before .before .before .before .before .before .before .before .before .holds-block .ensures)) ∙ c .before .before .before .before .before .before .before .before .before .before .before .before .before .if2 .left in
-    let v = c .before .before .before .before .before .before .before .before .before .before .before .before .owner .ensures in
+    let v = c .before .before .before .before .before .before .before .before .before .before .before .before .owner .ensures ∙ of-owner (a .directory) _ in
     let f = rw (s, n, v) at (c .before .before .before .before .before .before .before .before .before .fetch-bytes .ensures) in
     comes-to _ _ _ (Load _ _) z (load-missed _ _ _ _ _ q h) (c .accepted2 .ensures)
     (rw (f .1, c .before .before .before .before .before .before .before .before .before .before .before .before .before .before .before .cache-place .ensures) at (c .before .before .before .word-at2 .ensures) ∙ loaded-in _ _ _ _ _ _ q (length-fetched _ _ _ _ _ _ .1))
-    (rw (s, v) at (c .before .before .fetch-orders .ensures)) (rw (n, v) at (c .before .fetched .ensures)) (f .0) (f .1)
+    (rw (s, v) at (c .before .before .fetch-orders .ensures)) (of-fetched (a .directory) _ _ _ (rw (n, v) at (c .before .fetched .ensures))) (f .0) (f .1)
 
 pub load-spec : {M : Type 1} → statement M
 load-spec = tie.close (tie.spec is-address-requires refusal-of-requires refused-requires same-length same-length-2 returns cast-block place-of-requires slot-at-requires cache-place-requires holds-block-requires word-at-requires no-orders-requires accepted-requires owner-requires fetch-bytes-requires word-at-requires-2 fetch-orders-requires fetched-requires accepted-requires-2 same-length-3 same-length-4 returns-2 same-length-5 same-length-6 returns-3)

@@ -8,6 +8,7 @@ use Rattle.coherence.specs.Peek.{peeked, peekFromCache, peekOffset, newest, new
 use Rattle.coherence.specs.Slots.{place, ownerOf}
 use Rattle.coherence.specs.Refusal.{peekRefusal}
 use Rattle.coherence.proofs.SlotLaws.{place-lt}
+use Rattle.slots.proofs.OfSlots.{of-owner}
 use Rattle.machine.proofs.Refusals.{peek-known, part-is}
 use borrow.Author.Needs.{needs}
 use Rattle.machine.proofs.peek.Statement.{statement}
@@ -39,28 +40,28 @@ place-of-requires c κs = search needs
 
 mul-at : tie.Need-mul-at
 mul-at c =
-    let l = rw (sym (c .place-of .ensures)) at (place-lt _ (c .before .before .before .before .before .before .before .args .block) (c .before .if2 .taken)) in
+    let l = rw (sym (c .place-of .ensures)) at (place-lt _ (c .before .before .before .before .before .before .before .before .args .block) (c .before .if2 .taken)) in
     omega (arith, l)
 
 add-result : tie.Need-add-result
 add-result c =
-    let l = rw (sym (c .place-of .ensures)) at (place-lt _ (c .before .before .before .before .before .before .before .args .block) (c .before .if2 .taken)) in
+    let l = rw (sym (c .place-of .ensures)) at (place-lt _ (c .before .before .before .before .before .before .before .before .args .block) (c .before .if2 .taken)) in
     omega (arith, l)
 
 sub-result-2 : tie.Need-sub-result-2
 sub-result-2 c =
-    let l = rw (sym (c .place-of .ensures)) at (place-lt _ (c .before .before .before .before .before .before .before .args .block) (c .before .if2 .taken)) in
+    let l = rw (sym (c .place-of .ensures)) at (place-lt _ (c .before .before .before .before .before .before .before .before .args .block) (c .before .if2 .taken)) in
     omega (arith, l)
 
 part-result-start-2 : tie.Need-part-result-start-2
 part-result-start-2 c =
-    let l = rw (sym (c .place-of .ensures)) at (place-lt _ (c .before .before .before .before .before .before .before .args .block) (c .before .if2 .taken)) in
+    let l = rw (sym (c .place-of .ensures)) at (place-lt _ (c .before .before .before .before .before .before .before .before .args .block) (c .before .if2 .taken)) in
     omega (arith, l)
 
 part-result-end-2 : tie.Need-part-result-end-2
 part-result-end-2 c =
-    let l = rw (sym (c .place-of .ensures)) at (place-lt _ (c .before .before .before .before .before .before .before .args .block) (c .before .if2 .taken)) in
-    let k = peek-known _ _ _ _ (sym (c .before .before .before .before .peek-refusal .ensures) ∙ c .before .before .before .if1 .left) in
+    let l = rw (sym (c .place-of .ensures)) at (place-lt _ (c .before .before .before .before .before .before .before .before .args .block) (c .before .if2 .taken)) in
+    let k = peek-known _ _ _ _ (sym (c .before .before .before .before .before .peek-refusal .ensures) ∙ c .before .before .before .before .if1 .left) in
     omega (arith, l, k .0 .cache)
 
 mul-at-2 : tie.Need-mul-at-2
@@ -77,24 +78,24 @@ part-result-start-3 c = search needs
 
 part-result-end-3 : tie.Need-part-result-end-3
 part-result-end-3 c =
-    let k = peek-known _ _ _ _ (sym (c .before .before .before .peek-refusal .ensures) ∙ c .before .before .if1 .left) in
+    let k = peek-known _ _ _ _ (sym (c .before .before .before .before .peek-refusal .ensures) ∙ c .before .before .before .if1 .left) in
     omega (arith, k .0 .memory, k .1)
 
 returns-2 : tie.Need-returns-2
 unfolding peeked peekFromCache peekOffset newest newestBlock fromCache blockAt
 returns-2 c =
-    let a = c .before .before .before .before .before .before .before .before .args in
-    let o = c .before .before .before .owner .ensures in
+    let a = c .before .before .before .before .before .before .before .before .before .args in
+    let o = c .before .before .before .owner .ensures ∙ of-owner (a .directory) _ in
     let h : ownerOf (a .directory) (a .block) < 4 = omega (arith, o, c .before .before .if2 .taken) in
     let q = sym (c .before .place-of .ensures ∙ ap (λ (v : ℕ). place v (a .block)) o) in
-    rw (eq-eqb _ _ (sym (c .before .before .before .before .before .peek-refusal .ensures) ∙ c .before .before .before .before .if1 .left), lt-ltb _ 4 h, q) (rw part-is, search needs, search needs)
+    rw (eq-eqb _ _ (sym (c .before .before .before .before .before .before .peek-refusal .ensures) ∙ c .before .before .before .before .before .if1 .left), lt-ltb _ 4 h, q) (rw part-is, search needs, search needs)
 
 returns-3 : tie.Need-returns-3
 unfolding peeked peekFromCache peekOffset newest newestBlock fromCache blockAt
 returns-3 c =
-    let a = c .before .before .before .before .before .before .before .args in
-    let h : 4 ≤ ownerOf (a .directory) (a .block) = omega (arith, c .before .before .owner .ensures, c .before .if2 .left) in
-    rw (eq-eqb _ _ (sym (c .before .before .before .before .peek-refusal .ensures) ∙ c .before .before .before .if1 .left), le-ltb _ 4 h) (rw part-is, search needs, search needs)
+    let a = c .before .before .before .before .before .before .before .before .args in
+    let h : 4 ≤ ownerOf (a .directory) (a .block) = omega (arith, c .before .before .owner .ensures ∙ of-owner (a .directory) _, c .before .if2 .left) in
+    rw (eq-eqb _ _ (sym (c .before .before .before .before .before .peek-refusal .ensures) ∙ c .before .before .before .before .if1 .left), le-ltb _ 4 h) (rw part-is, search needs, search needs)
 
 pub peek-spec : {M : Type 1} → statement M
 peek-spec = tie.close (tie.spec peek-refusal-requires sub-result part-result-start part-result-end returns owner-requires place-of-requires mul-at add-result sub-result-2 part-result-start-2 part-result-end-2 mul-at-2 add-result-2 sub-result-3 part-result-start-3 part-result-end-3 returns-2 returns-3)

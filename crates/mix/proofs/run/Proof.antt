@@ -12,6 +12,9 @@ Inv-loop memory₀ cache₀ d₀ sum₀ x₀ i₀ memory cache d sum x i = (i �
 abbrev μ-loop : tie.MeasureT-loop
 μ-loop memory₀ cache₀ d₀ sum₀ x₀ i₀ memory cache d sum x i = 5000000 - i
 
+drill-settings-requires : tie.Need-drill-settings-requires Inv-loop μ-loop
+drill-settings-requires c κs = search needs
+
 cold-start-requires : tie.Need-cold-start-requires Inv-loop μ-loop
 cold-start-requires c κs = search needs
 
@@ -51,6 +54,7 @@ run-spec =
     (tie.spec
     Inv-loop
     μ-loop
+    drill-settings-requires
     cold-start-requires
     loop-holds
     step-requires

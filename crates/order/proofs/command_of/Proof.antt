@@ -22,9 +22,18 @@ returns-4 c = rw (c .match .keys4)
 
 returns-5 : tie.Need-returns-5
 unfolding commandOf
-returns-5 c =
-    rw
-    (ne-eqb _ 0 (c .match .rest .0 .0 .0 .1), ne-eqb _ 1 (c .match .rest .0 .0 .1), ne-eqb _ 2 (c .match .rest .0 .1), ne-eqb _ 3 (c .match .rest .1))
+returns-5 c = rw (c .match .keys5)
+
+returns-6 : tie.Need-returns-6
+unfolding commandOf
+returns-6 c =
+    rw (
+      ne-eqb _ 0 (c .match .rest .0 .0 .0 .0 .1),
+      ne-eqb _ 1 (c .match .rest .0 .0 .0 .1),
+      ne-eqb _ 2 (c .match .rest .0 .0 .1),
+      ne-eqb _ 3 (c .match .rest .0 .1),
+      ne-eqb _ 4 (c .match .rest .1),
+    )
 
 pub command-of-spec : {M : Type 1} → statement M
-command-of-spec = tie.close (tie.spec returns returns-2 returns-3 returns-4 returns-5)
+command-of-spec = tie.close (tie.spec returns returns-2 returns-3 returns-4 returns-5 returns-6)

@@ -1,8 +1,12 @@
 -- `slots::claimed` meets its contract.
-use borrow.Author.Needs.{needs}
-use mathlib.Core.Path.{_∙_}
+use mathlib.Core.Path.{ap, _∙_}
 use native.Mathlib.Omega.{arith}
-use Rattle.slots.proofs.Claims.{claimed-column}
+use Rattle.coherence.specs.declared.Directory.{Directory}
+use Rattle.coherence.specs.declared.Slot.the-variants.{Modified}
+use Rattle.coherence.specs.Slots.{place, setSlot}
+use Rattle.slots.specs.Directory.{ofSlots, claimedAtOnce, setColumn}
+use Rattle.slots.proofs.Claims.{expelled-column}
+use borrow.Author.Needs.{needs}
 use Rattle.slots.proofs.claimed.Statement.{statement}
 use Rattle.slots.proofs.claimed.Tie as tie
 
@@ -64,32 +68,11 @@ set-slot-requires : tie.Need-set-slot-requires
 set-slot-requires c κs = search needs
 
 returns : tie.Need-returns
+unfolding claimedAtOnce setColumn setSlot
 returns c =
-    rw (c .before .before .set-column .ensures, c .before .place-of .ensures) at (c .set-slot .ensures)
-    ∙ claimed-column _ _ _ _ _ _ _ _ (omega arith) (c .before .before .before .before .before .before .release .ensures)
-    (c .before .before .before .before .before .release2 .ensures) (c .before .before .before .before .release3 .ensures) (c .before .before .before .release4 .ensures)
+    (rw (c .before .before .set-column .ensures, c .before .place-of .ensures) at (c .set-slot .ensures))
+    ∙ ap (λ (d : Directory). setSlot d (place (c .before .before .before .before .before .before .before .before .before .before .before .args .unit) (c .before .before .before .before .before .before .before .before .before .before .before .args .block)) (Modified (c .before .before .before .before .before .before .before .before .before .before .before .args .block)) .slots)
+    (expelled-column (ofSlots _) _ _ _ _ _ _ _ (omega arith) (c .before .before .before .before .before .before .release .ensures) (c .before .before .before .before .before .release2 .ensures) (c .before .before .before .before .release3 .ensures) (c .before .before .before .release4 .ensures))
 
 pub claimed-spec : {M : Type 1} → statement M
-claimed-spec =
-    tie.close
-    (tie.spec
-    cast-s
-    mul-w
-    array-copy-out-w
-    add-x
-    mul-x
-    array-copy-out-x
-    add-y
-    mul-y
-    array-copy-out-y
-    add-z
-    mul-z
-    array-copy-out-z
-    release-requires
-    release-requires-2
-    release-requires-3
-    release-requires-4
-    set-column-requires
-    place-of-requires
-    set-slot-requires
-    returns)
+claimed-spec = tie.close (tie.spec cast-s mul-w array-copy-out-w add-x mul-x array-copy-out-x add-y mul-y array-copy-out-y add-z mul-z array-copy-out-z release-requires release-requires-2 release-requires-3 release-requires-4 set-column-requires place-of-requires set-slot-requires returns)

@@ -8,8 +8,8 @@ use Rattle.slots.proofs.set_column.Tie as tie
 mul-left : tie.Need-mul-left
 mul-left c = search needs
 
-element-set-from-left : tie.Need-element-set-from-left
-element-set-from-left c = search needs
+array-set-from-left : tie.Need-array-set-from-left
+array-set-from-left c = search needs
 
 add-left : tie.Need-add-left
 add-left c = search needs
@@ -17,8 +17,8 @@ add-left c = search needs
 mul-left-2 : tie.Need-mul-left-2
 mul-left-2 c = search needs
 
-element-set-from-left-2 : tie.Need-element-set-from-left-2
-element-set-from-left-2 c = search needs
+array-set-from-left-2 : tie.Need-array-set-from-left-2
+array-set-from-left-2 c = search needs
 
 add-left-2 : tie.Need-add-left-2
 add-left-2 c = search needs
@@ -26,17 +26,17 @@ add-left-2 c = search needs
 mul-left-3 : tie.Need-mul-left-3
 mul-left-3 c = search needs
 
-element-set-from-left-3 : tie.Need-element-set-from-left-3
-element-set-from-left-3 c = search needs
+array-set-from-left-3 : tie.Need-array-set-from-left-3
+array-set-from-left-3 c = search needs
 
-add-t9 : tie.Need-add-t9
-add-t9 c = search needs
+add-left-3 : tie.Need-add-left-3
+add-left-3 c = search needs
 
-mul-t12 : tie.Need-mul-t12
-mul-t12 c = search needs
+mul-left-4 : tie.Need-mul-left-4
+mul-left-4 c = search needs
 
-element-set-from-left-4 : tie.Need-element-set-from-left-4
-element-set-from-left-4 c = search needs
+array-set-from-left-4 : tie.Need-array-set-from-left-4
+array-set-from-left-4 c = search needs
 
 returns : tie.Need-returns
 unfolding setColumn setSlot
@@ -47,14 +47,14 @@ set-column-spec =
     tie.close
     (tie.spec
     mul-left
-    element-set-from-left
+    array-set-from-left
     add-left
     mul-left-2
-    element-set-from-left-2
+    array-set-from-left-2
     add-left-2
     mul-left-3
-    element-set-from-left-3
-    add-t9
-    mul-t12
-    element-set-from-left-4
+    array-set-from-left-3
+    add-left-3
+    mul-left-4
+    array-set-from-left-4
     returns)

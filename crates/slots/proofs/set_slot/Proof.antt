@@ -1,18 +1,20 @@
 -- `slots::set_slot` meets its contract.
-use mathlib.Core.Path.{_≡_, sym}
+use mathlib.Core.Path.{_≡_, sym, ap}
 use native.Mathlib.Omega.{arith}
 use lib.ListN.{length}
-use Rattle.coherence.specs.Slots.{setSlot}
-use Rattle.slots.proofs.Sets.{length-mapped, set-far}
 use borrow.Author.Needs.{needs}
+use Rattle.coherence.specs.declared.Directory.{Directory}
+use Rattle.coherence.specs.Slots.{setSlot}
+use Rattle.slots.specs.Directory.{ofSlots}
+use Rattle.slots.proofs.Sets.{length-mapped, set-far}
 use Rattle.slots.proofs.set_slot.Statement.{statement}
 use Rattle.slots.proofs.set_slot.Tie as tie
 
-mul-t7 : tie.Need-mul-t7
-mul-t7 c = search needs
+mul-left : tie.Need-mul-left
+mul-left c = search needs
 
-element-set-from-left : tie.Need-element-set-from-left
-element-set-from-left c = search needs
+array-set-from-left : tie.Need-array-set-from-left
+array-set-from-left c = search needs
 
 returns : tie.Need-returns
 unfolding setSlot
@@ -20,8 +22,8 @@ returns c = search needs
 
 returns-2 : tie.Need-returns-2
 returns-2 c =
-    let h : length (c .before .args .directory .slots) ≡ 64 = search (needs, length-mapped) in
-    sym (set-far _ _ _ (omega arith))
+    let h : length (c .before .args .slots) ≡ 64 = search (needs, length-mapped) in
+    sym (ap (λ (d : Directory). d .slots) (set-far (ofSlots (c .before .args .slots)) _ _ (omega arith)))
 
 pub set-slot-spec : {M : Type 1} → statement M
-set-slot-spec = tie.close (tie.spec mul-t7 element-set-from-left returns returns-2)
+set-slot-spec = tie.close (tie.spec mul-left array-set-from-left returns returns-2)

@@ -21,15 +21,18 @@ const ROUNDS: usize = 41;
 /// Directory, stores and the answer's space, as a caller holds them.
 #[derive(Clone, PartialEq, Debug)]
 struct Lent {
-    directory: [u8; 128],
+    directory: [u8; 129],
     memory: [u8; 2048],
     cache: [u8; 2048],
     answer: [u32; 18],
 }
 
 impl Lent {
-    fn cold() -> Lent {
-        Lent { directory: [0; 128], memory: [7; 2048], cache: [0; 2048], answer: [0; 18] }
+    /// A cold machine with this set of write-through units.
+    fn cold(write_through: u8) -> Lent {
+        let mut directory = [0; 129];
+        directory[128] = write_through;
+        Lent { directory, memory: [7; 2048], cache: [0; 2048], answer: [0; 18] }
     }
 }
 
@@ -95,11 +98,17 @@ fn row(name: &str, proved: f64, same: f64, place: Option<f64>) {
     println!("| {name} | {proved:.1} | {same:.1} | {:.2} {place}", proved / same);
 }
 
+/// A row of calls on a machine with copyback boards.
 fn calls_row(name: &str, prepare: &[Call], calls: &[Call]) {
+    mixed_row(name, 0, prepare, calls);
+}
+
+/// A row of calls on a machine with this set of write-through units.
+fn mixed_row(name: &str, write_through: u8, prepare: &[Call], calls: &[Call]) {
     let repeat = 40_000 / calls.len();
     let sides = [Side::Proved, Side::Typed, Side::Packed];
     let mut state = sides.map(|side| {
-        let mut lent = Lent::cold();
+        let mut lent = Lent::cold(write_through);
         run(side, &mut lent, prepare);
         lent
     });
@@ -500,7 +509,7 @@ fn mix_row(program: &str) {
                         printed.parse().expect("mix prints a number")
                     }
                     1 => {
-                        let state = RefCell::new(([typed::Slot::Invalid; 64], [0u8; 2048], [0u8; 2048]));
+                        let state = RefCell::new((typed::Directory::cold(), [0u8; 2048], [0u8; 2048]));
                         mix(
                             |u, a| {
                                 let (d, m, k) = &mut *state.borrow_mut();
@@ -513,7 +522,7 @@ fn mix_row(program: &str) {
                         )
                     }
                     _ => {
-                        let state = RefCell::new(([0u8; 128], [0u8; 2048], [0u8; 2048]));
+                        let state = RefCell::new(([0u8; 129], [0u8; 2048], [0u8; 2048]));
                         mix(
                             |u, a| {
                                 let (d, m, k) = &mut *state.borrow_mut();
@@ -560,6 +569,7 @@ fn main() {
         })
         .collect();
     calls_row("random loads and stores", &[], &mix);
+    mixed_row("random loads and stores, two write-through boards", 0b0101, &[], &mix);
     tape_rows();
     stamp_rows();
     message_rows();

@@ -1,7 +1,11 @@
 //! Plain Rust on the directory's bytes where they lie: nothing is decoded, and only the slots that change are written.
 use crate::typed::{clash, hand_over, misfit, Answer, Order};
 
-type Directory = [u8; 128];
+type Directory = [u8; 129];
+
+fn writes_through(d: &Directory, u: usize) -> bool {
+    d[128] >> u & 1 == 1
+}
 
 /// A slot's two bytes as one number: the state below, the block above.
 fn slot(d: &Directory, n: usize) -> u16 {
@@ -33,9 +37,15 @@ fn unspelled(x: u16) -> u16 {
     (rank(x) > 2 || (rank(x) == 0 && x != 0)) as u16
 }
 
-/// The rules of the directory; `LENT` also tests that bytes from outside spell slots at all.
+/// Whether a unit has an EM slot, its states being at most 2: four slots at a time.
+fn has_modified(d: &Directory, u: usize) -> bool {
+    let four = |bytes: &[u8]| u64::from_le_bytes(bytes.try_into().expect("eight bytes"));
+    d[32 * u..32 * u + 32].chunks_exact(8).fold(0, |slots, bytes| slots | four(bytes)) & 0x0002_0002_0002_0002 != 0
+}
+
+/// The rules of the directory; `LENT` also tests that bytes from outside spell slots and kinds at all.
 fn sound<const LENT: bool>(d: &Directory) -> bool {
-    let mut faults = 0u16;
+    let mut faults = (LENT && d[128] > 15) as u16;
     let slots: [u16; 64] = std::array::from_fn(|n| slot(d, n));
     for s in 0..16usize {
         let (w, x, y, z) = (slots[s], slots[16 + s], slots[32 + s], slots[48 + s]);
@@ -49,7 +59,7 @@ fn sound<const LENT: bool>(d: &Directory) -> bool {
         faults += clash(bw, rw, bx, rx) + clash(bw, rw, by, ry) + clash(bw, rw, bz, rz);
         faults += clash(bx, rx, by, ry) + clash(bx, rx, bz, rz) + clash(by, ry, bz, rz);
     }
-    faults == 0
+    faults == 0 && (0..4).all(|u| !(writes_through(d, u) && has_modified(d, u)))
 }
 
 fn holds(d: &Directory, u: usize, b: u8) -> bool {
@@ -91,21 +101,26 @@ fn copyback(memory: &mut [u8], cache: &[u8], u: usize, b: u8, a: &mut Answer) {
     push(a, u, 3, b, false);
 }
 
+/// The order, retried where another unit has the block EM.
+fn request(d: &mut Directory, memory: &mut [u8], cache: &[u8], u: usize, b: u8, command: u8, a: &mut Answer) {
+    for v in 0..4 {
+        if v != u && modified(d, v, b) {
+            push(a, u, command, b, true);
+            copyback(memory, cache, v, b, a);
+            set(d, 16 * v + b as usize % 16, 1, b);
+            break;
+        }
+    }
+    push(a, u, command, b, false);
+}
+
 fn fetch(d: &mut Directory, memory: &mut [u8], cache: &mut [u8], u: usize, b: u8, command: u8, a: &mut Answer) {
     let s = b as usize % 16;
     if state(d, 16 * u + s) == 2 {
         copyback(memory, cache, u, block(d, 16 * u + s), a);
     }
     set(d, 16 * u + s, 0, 0);
-    for v in 0..4 {
-        if v != u && modified(d, v, b) {
-            push(a, u, command, b, true);
-            copyback(memory, cache, v, b, a);
-            set(d, 16 * v + s, 1, b);
-            break;
-        }
-    }
-    push(a, u, command, b, false);
+    request(d, memory, cache, u, b, command, a);
     let (from, to) = (32 * b as usize, 512 * u + 32 * s);
     cache[to..to + 32].copy_from_slice(&memory[from..from + 32]);
     set(d, 16 * u + s, 1, b);
@@ -123,8 +138,30 @@ pub fn load(d: &mut Directory, memory: &mut [u8], cache: &mut [u8], u: usize, ad
     a
 }
 
+/// An accepted store of a write-through unit.
+fn write_through(d: &mut Directory, memory: &mut [u8], cache: &mut [u8], u: usize, address: u32, value: u32) -> Answer {
+    let mut a = empty();
+    let (b, word) = ((address / 32) as u8, address as usize);
+    let s = b as usize % 16;
+    request(d, memory, cache, u, b, 4, &mut a);
+    memory[word..word + 4].copy_from_slice(&value.to_be_bytes());
+    if holds(d, u, b) {
+        let at = 512 * u + 32 * s + address as usize % 32;
+        cache[at..at + 4].copy_from_slice(&value.to_be_bytes());
+    }
+    for v in 0..4 {
+        if v != u && holds(d, v, b) {
+            set(d, 16 * v + s, 0, 0);
+        }
+    }
+    a
+}
+
 /// An accepted store.
 pub fn store(d: &mut Directory, memory: &mut [u8], cache: &mut [u8], u: usize, address: u32, value: u32) -> Answer {
+    if writes_through(d, u) {
+        return write_through(d, memory, cache, u, address, value);
+    }
     let mut a = empty();
     let b = (address / 32) as u8;
     let s = b as usize % 16;

@@ -70,6 +70,12 @@ impl Reader<'_> {
     }
 }
 
+/// 1 for a command that may be retried, else 0.
+#[inline]
+fn most_retried(command: u64) -> u64 {
+    (command < 2 || command == 4) as u64
+}
+
 /// Kind, fields, and the place after the record.
 #[inline]
 pub fn read(tape: &[u8], place: usize) -> Result<([u64; 7], usize), Refused> {
@@ -93,9 +99,9 @@ pub fn read(tape: &[u8], place: usize) -> Result<([u64; 7], usize), Refused> {
         }
         3 => {
             n[1] = r.upto(3)?;
-            n[2] = r.upto(3)?;
+            n[2] = r.upto(4)?;
             n[3] = r.upto(63)?;
-            n[4] = r.upto((n[2] < 2) as u64)?;
+            n[4] = r.upto(most_retried(n[2]))?;
         }
         4 | 5 => {
             n[1] = r.upto(7)?;
@@ -160,7 +166,7 @@ fn valid(n: &[u64; 7]) -> Result<(usize, usize), u32> {
         0 => (2, 3 + long(n[2]), n[1] <= 3 && address(n[2])),
         1 => (3, 3 + long(n[2]) + groups(n[3]), n[1] <= 3 && address(n[2]) && n[3] <= word),
         2 => (2, 3, n[1] <= 3 && n[2] <= 63),
-        3 => (4, 5, n[1] <= 3 && n[2] <= 3 && n[3] <= 63 && n[4] <= (n[2] < 2) as u64),
+        3 => (4, 5, n[1] <= 3 && n[2] <= 4 && n[3] <= 63 && n[4] <= most_retried(n[2])),
         4 => (4, 5 + long(n[3]) + long(n[4]), n[1] <= 7 && n[2] <= 7 && n[1] != n[2] && n[3] <= 255 && n[4] <= 255),
         5 => {
             let good = n[1] <= 7 && n[2] <= 7 && n[1] != n[2] && n[3] <= 255 && n[4] <= 1 && n[5] <= word && n[6] <= 7;
@@ -255,7 +261,7 @@ fn print(tape: &[u8], out: &mut Text) {
         out.put(b"refused 9 at 65536\n");
         return;
     }
-    let (mut d, mut memory, mut cache) = ([0u8; 128], [0u8; 2048], [0u8; 2048]);
+    let (mut d, mut memory, mut cache) = ([0u8; 129], [0u8; 2048], [0u8; 2048]);
     let (mut place, mut calls, mut orders) = (0, 0u64, 0u64);
     while place < tape.len() {
         let n = match read(tape, place) {

@@ -1,5 +1,5 @@
-//! Plain Rust with the proved library's types: the directory's bytes become slots of an enum before a call and bytes again after it.
-//! The test of the directory is the branch-free one, which the compiler vectorises.
+//! Plain Rust with the proved library's types: the directory's bytes become slots and kinds of boards, both enums, before a call and bytes again after it.
+//! The test of the directory is the branch-free one, which the compiler vectorises; for EM slots of write-through units it looks at those units alone.
 
 #[derive(Clone, Copy)]
 #[repr(u8)]
@@ -9,6 +9,25 @@ pub enum Slot {
     Modified(u8),
 }
 use Slot::*;
+
+#[derive(Clone, Copy, PartialEq)]
+pub enum Kind {
+    Copyback,
+    WriteThrough,
+}
+
+#[derive(Clone, Copy)]
+pub struct Directory {
+    slots: [Slot; 64],
+    kinds: [Kind; 4],
+}
+
+impl Directory {
+    /// All slots invalid, and copyback boards.
+    pub fn cold() -> Directory {
+        Directory { slots: [Invalid; 64], kinds: [Kind::Copyback; 4] }
+    }
+}
 
 #[derive(Clone, Copy)]
 pub struct Order {
@@ -63,30 +82,34 @@ pub fn clash(b: u16, t: u16, c: u16, v: u16) -> u16 {
     (b == c && t + v >= 3) as u16
 }
 
-fn sound(d: &[Slot; 64]) -> bool {
+fn has_modified(d: &Directory, u: usize) -> bool {
+    d.slots[16 * u..16 * u + 16].iter().fold(0, |ranks, &slot| ranks | rank(slot)) >= 2
+}
+
+fn sound(d: &Directory) -> bool {
     let mut faults = 0u16;
     for s in 0..16 {
         let k = s as u16;
-        let (w, x, y, z) = (d[s], d[16 + s], d[32 + s], d[48 + s]);
+        let (w, x, y, z) = (d.slots[s], d.slots[16 + s], d.slots[32 + s], d.slots[48 + s]);
         let (bw, bx, by, bz) = (seat(w, k), seat(x, k), seat(y, k), seat(z, k));
         let (rw, rx, ry, rz) = (rank(w), rank(x), rank(y), rank(z));
         faults += misfit(bw, k) + misfit(bx, k) + misfit(by, k) + misfit(bz, k);
         faults += clash(bw, rw, bx, rx) + clash(bw, rw, by, ry) + clash(bw, rw, bz, rz);
         faults += clash(bx, rx, by, ry) + clash(bx, rx, bz, rz) + clash(by, ry, bz, rz);
     }
-    faults == 0
+    faults == 0 && (0..4).all(|u| !(d.kinds[u] == Kind::WriteThrough && has_modified(d, u)))
 }
 
-fn holds(d: &[Slot; 64], u: usize, b: u8) -> bool {
-    matches!(d[16 * u + b as usize % 16], Shared(c) | Modified(c) if c == b)
+fn holds(d: &Directory, u: usize, b: u8) -> bool {
+    matches!(d.slots[16 * u + b as usize % 16], Shared(c) | Modified(c) if c == b)
 }
 
-fn modified(d: &[Slot; 64], u: usize, b: u8) -> bool {
-    matches!(d[16 * u + b as usize % 16], Modified(c) if c == b)
+fn modified(d: &Directory, u: usize, b: u8) -> bool {
+    matches!(d.slots[16 * u + b as usize % 16], Modified(c) if c == b)
 }
 
 /// The number of refusal of a load or a store: tests 1, 2, 3, 4.
-fn refusal(d: &[Slot; 64], memory: &[u8], cache: &[u8], unit: u32, good: bool) -> u32 {
+fn refusal(d: &Directory, memory: &[u8], cache: &[u8], unit: u32, good: bool) -> u32 {
     if memory.len() != 2048 || cache.len() != 2048 {
         1
     } else if !sound(d) {
@@ -106,27 +129,32 @@ fn copyback(memory: &mut [u8], cache: &[u8], u: usize, b: u8, a: &mut Answer) {
     a.push(u, 3, b, false);
 }
 
-fn fetch(d: &mut [Slot; 64], memory: &mut [u8], cache: &mut [u8], u: usize, b: u8, command: u8, a: &mut Answer) {
-    let s = b as usize % 16;
-    if let Modified(old) = d[16 * u + s] {
-        copyback(memory, cache, u, old, a);
-    }
-    d[16 * u + s] = Invalid;
+/// The order, retried where another unit has the block EM.
+fn request(d: &mut Directory, memory: &mut [u8], cache: &[u8], u: usize, b: u8, command: u8, a: &mut Answer) {
     for v in 0..4 {
         if v != u && modified(d, v, b) {
             a.push(u, command, b, true);
             copyback(memory, cache, v, b, a);
-            d[16 * v + s] = Shared(b);
+            d.slots[16 * v + b as usize % 16] = Shared(b);
             break;
         }
     }
     a.push(u, command, b, false);
-    let (from, to) = (32 * b as usize, 512 * u + 32 * s);
-    cache[to..to + 32].copy_from_slice(&memory[from..from + 32]);
-    d[16 * u + s] = Shared(b);
 }
 
-pub fn load(d: &mut [Slot; 64], memory: &mut [u8], cache: &mut [u8], unit: u32, address: u32) -> Answer {
+fn fetch(d: &mut Directory, memory: &mut [u8], cache: &mut [u8], u: usize, b: u8, command: u8, a: &mut Answer) {
+    let s = b as usize % 16;
+    if let Modified(old) = d.slots[16 * u + s] {
+        copyback(memory, cache, u, old, a);
+    }
+    d.slots[16 * u + s] = Invalid;
+    request(d, memory, cache, u, b, command, a);
+    let (from, to) = (32 * b as usize, 512 * u + 32 * s);
+    cache[to..to + 32].copy_from_slice(&memory[from..from + 32]);
+    d.slots[16 * u + s] = Shared(b);
+}
+
+pub fn load(d: &mut Directory, memory: &mut [u8], cache: &mut [u8], unit: u32, address: u32) -> Answer {
     let number = refusal(d, memory, cache, unit, address % 4 == 0 && address <= 2044);
     if number != 0 {
         return Answer::refused(number);
@@ -141,13 +169,35 @@ pub fn load(d: &mut [Slot; 64], memory: &mut [u8], cache: &mut [u8], unit: u32, 
     a
 }
 
-pub fn store(d: &mut [Slot; 64], memory: &mut [u8], cache: &mut [u8], unit: u32, address: u32, value: u32) -> Answer {
+/// An accepted store of a write-through unit.
+fn write_through(d: &mut Directory, memory: &mut [u8], cache: &mut [u8], u: usize, address: u32, value: u32) -> Answer {
+    let mut a = Answer::new();
+    let (b, word) = ((address / 32) as u8, address as usize);
+    let s = b as usize % 16;
+    request(d, memory, cache, u, b, 4, &mut a);
+    memory[word..word + 4].copy_from_slice(&value.to_be_bytes());
+    if holds(d, u, b) {
+        let at = 512 * u + 32 * s + address as usize % 32;
+        cache[at..at + 4].copy_from_slice(&value.to_be_bytes());
+    }
+    for v in 0..4 {
+        if v != u && holds(d, v, b) {
+            d.slots[16 * v + s] = Invalid;
+        }
+    }
+    a
+}
+
+pub fn store(d: &mut Directory, memory: &mut [u8], cache: &mut [u8], unit: u32, address: u32, value: u32) -> Answer {
     let number = refusal(d, memory, cache, unit, address % 4 == 0 && address <= 2044);
     if number != 0 {
         return Answer::refused(number);
     }
-    let mut a = Answer::new();
     let (u, b) = (unit as usize, (address / 32) as u8);
+    if d.kinds[u] == Kind::WriteThrough {
+        return write_through(d, memory, cache, u, address, value);
+    }
+    let mut a = Answer::new();
     let s = b as usize % 16;
     if !modified(d, u, b) {
         if holds(d, u, b) {
@@ -157,17 +207,17 @@ pub fn store(d: &mut [Slot; 64], memory: &mut [u8], cache: &mut [u8], unit: u32,
         }
         for v in 0..4 {
             if v != u && holds(d, v, b) {
-                d[16 * v + s] = Invalid;
+                d.slots[16 * v + s] = Invalid;
             }
         }
-        d[16 * u + s] = Modified(b);
+        d.slots[16 * u + s] = Modified(b);
     }
     let at = 512 * u + 32 * s + address as usize % 32;
     cache[at..at + 4].copy_from_slice(&value.to_be_bytes());
     a
 }
 
-pub fn flush(d: &mut [Slot; 64], memory: &mut [u8], cache: &[u8], unit: u32, block: u32) -> Answer {
+pub fn flush(d: &mut Directory, memory: &mut [u8], cache: &[u8], unit: u32, block: u32) -> Answer {
     let number = refusal(d, memory, cache, unit, block <= 63);
     if number != 0 {
         return Answer::refused(number);
@@ -178,45 +228,49 @@ pub fn flush(d: &mut [Slot; 64], memory: &mut [u8], cache: &[u8], unit: u32, blo
         if modified(d, u, b) {
             copyback(memory, cache, u, b, &mut a);
         }
-        d[16 * u + b as usize % 16] = Invalid;
+        d.slots[16 * u + b as usize % 16] = Invalid;
     }
     a
 }
 
 /// The machine's call with no boundary around it.
 #[inline(never)]
-pub fn tested_load(d: &mut [Slot; 64], memory: &mut [u8], cache: &mut [u8], unit: u32, address: u32) -> Answer {
+pub fn tested_load(d: &mut Directory, memory: &mut [u8], cache: &mut [u8], unit: u32, address: u32) -> Answer {
     load(d, memory, cache, unit, address)
 }
 
 #[inline(never)]
-pub fn tested_store(d: &mut [Slot; 64], memory: &mut [u8], cache: &mut [u8], unit: u32, address: u32, value: u32) -> Answer {
+pub fn tested_store(d: &mut Directory, memory: &mut [u8], cache: &mut [u8], unit: u32, address: u32, value: u32) -> Answer {
     store(d, memory, cache, unit, address, value)
 }
 
-fn decode(bytes: &[u8]) -> [Slot; 64] {
-    let mut slots = [Shared(255); 64];
-    if let Ok(bytes) = <&[u8; 128]>::try_from(bytes) {
-        for n in 0..64 {
-            // The block first, and then a choice of constants: the compiler makes this loop free of branches.
-            let (state, block) = (bytes[2 * n], bytes[2 * n + 1]);
-            let b = if state == 1 || state == 2 { block } else { 255 };
-            slots[n] = if state == 2 {
-                Modified(b)
-            } else if state == 0 && block == 0 {
-                Invalid
-            } else {
-                Shared(b)
-            };
-        }
+/// Bytes that spell no directory become slots that no rule allows.
+fn decode(bytes: &[u8]) -> Directory {
+    let mut d = Directory { slots: [Shared(255); 64], kinds: [Kind::Copyback; 4] };
+    let Ok(bytes) = <&[u8; 129]>::try_from(bytes) else { return d };
+    if bytes[128] > 15 {
+        return d;
     }
-    slots
+    for n in 0..64 {
+        // The block first, and then a choice of constants: the compiler makes this loop free of branches.
+        let (state, block) = (bytes[2 * n], bytes[2 * n + 1]);
+        let b = if state == 1 || state == 2 { block } else { 255 };
+        d.slots[n] = if state == 2 {
+            Modified(b)
+        } else if state == 0 && block == 0 {
+            Invalid
+        } else {
+            Shared(b)
+        };
+    }
+    d.kinds = [0, 1, 2, 3].map(|u| if bytes[128] >> u & 1 == 1 { Kind::WriteThrough } else { Kind::Copyback });
+    d
 }
 
-fn encode(d: &[Slot; 64], bytes: &mut [u8]) {
-    let bytes: &mut [u8; 128] = bytes.try_into().expect("a sound directory has 128 bytes");
+fn encode(d: &Directory, bytes: &mut [u8]) {
+    let bytes: &mut [u8; 129] = bytes.try_into().expect("a sound directory has 129 bytes");
     for n in 0..64 {
-        let (state, block) = match d[n] {
+        let (state, block) = match d.slots[n] {
             Invalid => (0, 0),
             Shared(b) => (1, b),
             Modified(b) => (2, b),
@@ -224,6 +278,8 @@ fn encode(d: &[Slot; 64], bytes: &mut [u8]) {
         bytes[2 * n] = state;
         bytes[2 * n + 1] = block;
     }
+    let [w, x, y, z] = d.kinds.map(|kind| (kind == Kind::WriteThrough) as u8);
+    bytes[128] = w + 2 * x + 4 * y + 8 * z;
 }
 
 pub fn hand_over(a: &Answer, answer: &mut [u32]) {
@@ -234,7 +290,7 @@ pub fn hand_over(a: &Answer, answer: &mut [u32]) {
     }
 }
 
-fn finish(d: &[Slot; 64], a: &Answer, directory: &mut [u8], answer: &mut [u32]) -> u32 {
+fn finish(d: &Directory, a: &Answer, directory: &mut [u8], answer: &mut [u32]) -> u32 {
     if a.refusal == 0 {
         encode(d, directory);
         hand_over(a, answer);

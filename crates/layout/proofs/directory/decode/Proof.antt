@@ -2,9 +2,11 @@
 use Prim.Native.Nat.{_≤_, _-_}
 use mathlib.Core.Path.{_≡_, refl, sym, _∙_}
 use native.Mathlib.Omega.{arith}
-use borrow.Author.Tests.{eq-eqb, ne-eqb}
 use lib.ListN.{length, take, length-set}
 use lib.Seq.{take-all}
+use lib.Dec.{leb, eqb}
+use borrow.Author.Tests.{eqb-true}
+use Rattle.coherence.proofs.Below.{both}
 use Rattle.layout.specs.Directory.{Paired, slotsSpelled, decoded}
 use Rattle.layout.proofs.DirectoryLaws.{take-slot}
 use borrow.Author.Needs.{needs}
@@ -12,13 +14,21 @@ use Rattle.layout.proofs.directory.decode.Statement.{statement}
 use Rattle.layout.proofs.directory.decode.Tie as tie
 
 abbrev Inv-loop : tie.InvT-loop
-Inv-loop bytes slots₀ words n₀ slots n = (n ≤ 64) × (length slots ≡ 64) × (take n slots ≡ slotsSpelled n bytes)
+Inv-loop bytes given settings slots₀ words n₀ slots n = (n ≤ 64) × (length slots ≡ 64) × (take n slots ≡ slotsSpelled n bytes)
 
 abbrev μ-loop : tie.MeasureT-loop
-μ-loop bytes slots₀ words n₀ slots n = 64 - n
+μ-loop bytes given settings slots₀ words n₀ slots n = 64 - n
+
+set-in-requires : tie.Need-set-in-requires Inv-loop μ-loop
+set-in-requires c κs = search needs
+
+settings-of-requires : tie.Need-settings-of-requires Inv-loop μ-loop
+settings-of-requires c κs = search needs
 
 pairs-requires : tie.Need-pairs-requires Inv-loop μ-loop
-pairs-requires c κs = search needs
+pairs-requires c κs =
+    let b = c .before .before .before .before .args .bytes .now in
+    eqb-true (length b) 129 (both (eqb (length b) 129) (leb (c .before .before .set-in .result) 15) (c .if1 .taken) .0)
 
 loop-holds : tie.Need-loop-holds Inv-loop μ-loop
 unfolding slotsSpelled
@@ -49,7 +59,7 @@ loop-again : tie.Need-loop-again Inv-loop μ-loop
 unfolding Paired
 loop-again c =
     let l = c .before .before .loop in
-    let b = c .before .before .before .before .before .before .args .bytes .now in
+    let b = c .before .before .before .before .before .before .before .before .args .bytes .now in
     let p = c .before .before .before .pairs .ensures .1 (l .n) (omega arith) in (
       omega arith,
       simp length-set (omega arith),
@@ -60,31 +70,17 @@ returns : tie.Need-returns Inv-loop μ-loop
 unfolding decoded
 returns c =
     let l = c .before .loop in
-    let b = c .before .before .before .before .before .args .bytes .now in
+    let b = c .before .before .before .before .before .before .before .args .bytes .now in
     let e : l .n ≡ 64 = omega arith in
-    let whole : l .slots ≡ slotsSpelled 64 b =
-    sym (take-all 64 (l .slots) (omega arith)) ∙ (rw e at (l .inv .2)) in
-    rw (eq-eqb _ 128 (c .before .before .before .if1 .taken), whole)
+    let whole : l .slots ≡ slotsSpelled 64 b = sym (take-all 64 (l .slots) (omega arith)) ∙ (rw e at (l .inv .2)) in
+    let s = c .before .before .before .before .before .set-in .ensures in
+    rw (rw s at (c .before .before .before .if1 .taken), whole, rw s at (c .before .before .before .before .settings-of .ensures))
 
 returns-2 : tie.Need-returns-2 Inv-loop μ-loop
 unfolding decoded
-returns-2 c = rw (ne-eqb _ 128 (c .if1 .left))
+returns-2 c =
+    let s = c .before .before .set-in .ensures in
+    rw (rw s at (c .if1 .left), rw s at (c .before .settings-of .ensures))
 
 pub decode-spec : {M : Type 1} → statement M
-decode-spec =
-    tie.close
-    (tie.spec
-    Inv-loop
-    μ-loop
-    pairs-requires
-    loop-holds
-    mul-slot-spelled
-    array-read-slot-spelled
-    slot-spelled-requires
-    mul-slots
-    array-set-from-slots
-    add-n
-    loop-less
-    loop-again
-    returns
-    returns-2)
+decode-spec = tie.close (tie.spec Inv-loop μ-loop set-in-requires settings-of-requires pairs-requires loop-holds mul-slot-spelled array-read-slot-spelled slot-spelled-requires mul-slots array-set-from-slots add-n loop-less loop-again returns returns-2)

@@ -1,0 +1,99 @@
+-- A set of units and the boards that it spells.
+use mathlib.Core.Path.{_≡_, refl, sym, ap, _∙_}
+use mathlib.Core.Bool.{Bool, true, false}
+use mathlib.Core.List.{List, [], _∷_}
+use Prim.Native.Nat.{ℕ, _+_, _*_, _/_, _%_, _^_, _≤_}
+use native.Mathlib.Omega.{arith}
+use lib.Dec.{eqb}
+use lib.ListN.{length}
+use borrow.Author.Tests.{eqb-true, eqb-false}
+use Rattle.numeric.specs.Bits.{bitAt, contains}
+use Rattle.coherence.specs.declared.Kind.{Kind}
+use Rattle.coherence.specs.declared.Kind.the-variants.{Copyback, WriteThrough}
+use Rattle.coherence.specs.declared.Board.{Board}
+use Rattle.coherence.specs.declared.Settings.{Settings}
+use Rattle.coherence.specs.Settings.{isThrough, through}
+use Rattle.boards.specs.Boards.{boardOf, settingsOf, weighed, setOf, Examples, Sets}
+
+-- ---- settings, and back
+boards-back : (x y z w : Kind)
+    → let g : Settings = record { boards = record { kind = x } ∷ record { kind = y } ∷ record { kind = z } ∷ record { kind = w } ∷ [] } in
+    settingsOf (setOf g) ≡ g
+unfolding settingsOf setOf weighed boardOf contains bitAt through isThrough
+boards-back Copyback Copyback Copyback Copyback = refl
+boards-back Copyback Copyback Copyback WriteThrough = refl
+boards-back Copyback Copyback WriteThrough Copyback = refl
+boards-back Copyback Copyback WriteThrough WriteThrough = refl
+boards-back Copyback WriteThrough Copyback Copyback = refl
+boards-back Copyback WriteThrough Copyback WriteThrough = refl
+boards-back Copyback WriteThrough WriteThrough Copyback = refl
+boards-back Copyback WriteThrough WriteThrough WriteThrough = refl
+boards-back WriteThrough Copyback Copyback Copyback = refl
+boards-back WriteThrough Copyback Copyback WriteThrough = refl
+boards-back WriteThrough Copyback WriteThrough Copyback = refl
+boards-back WriteThrough Copyback WriteThrough WriteThrough = refl
+boards-back WriteThrough WriteThrough Copyback Copyback = refl
+boards-back WriteThrough WriteThrough Copyback WriteThrough = refl
+boards-back WriteThrough WriteThrough WriteThrough Copyback = refl
+boards-back WriteThrough WriteThrough WriteThrough WriteThrough = refl
+
+back : (g : Settings) → length (g .boards) ≡ 4 → settingsOf (setOf g) ≡ g
+back g e = go (g .boards) refl e
+  where
+    go : (l : List Board) → g .boards ≡ l → length l ≡ 4 → settingsOf (setOf g) ≡ g
+    go [] q h = absurd (omega arith)
+    go (a ∷ []) q h = absurd (omega arith)
+    go (a ∷ b ∷ []) q h = absurd (omega arith)
+    go (a ∷ b ∷ c ∷ []) q h = absurd (omega arith)
+    go (a ∷ b ∷ c ∷ d ∷ []) q h =
+        let p : g ≡ record { boards = a ∷ b ∷ c ∷ d ∷ [] } = ap (λ (l : List Board). record { boards = l }) q in
+        ap (λ (f : Settings). settingsOf (setOf f)) p ∙ boards-back (a .kind) (b .kind) (c .kind) (d .kind) ∙ sym p
+    go (a ∷ b ∷ c ∷ d ∷ x ∷ l) q h = absurd (omega arith)
+
+-- ---- a set, and back
+is-through : (t : Bool) → isThrough (boardOf t .kind) ≡ t
+unfolding isThrough boardOf
+is-through true = refl
+is-through false = refl
+
+through-each : (s : ℕ) → (through (settingsOf s) 0 ≡ contains s 0) × (through (settingsOf s) 1 ≡ contains s 1)
+    × (through (settingsOf s) 2 ≡ contains s 2) × (through (settingsOf s) 3 ≡ contains s 3)
+unfolding settingsOf through
+through-each s = (is-through (contains s 0), is-through (contains s 1), is-through (contains s 2), is-through (contains s 3))
+
+weighed-bit : (s i w : ℕ) → weighed (contains s i) w ≡ w * bitAt i s
+unfolding weighed contains bitAt
+weighed-bit s i w = go (eqb (s / 2 ^ i % 2) 1) refl
+  where
+    go : (t : Bool) → eqb (s / 2 ^ i % 2) 1 ≡ t → weighed t w ≡ w * (s / 2 ^ i % 2)
+    go true e = let q : s / 2 ^ i % 2 ≡ 1 = eqb-true _ 1 e in rw q (omega arith)
+    go false e = let q : s / 2 ^ i % 2 ≡ 1 → ⊥ = eqb-false _ 1 e in let z : s / 2 ^ i % 2 ≡ 0 = omega arith in rw z (omega arith)
+
+sum-of-bits : (s : ℕ) → s ≤ 15 → 1 * (s / 1 % 2) + 2 * (s / 2 % 2) + 4 * (s / 4 % 2) + 8 * (s / 8 % 2) ≡ s
+sum-of-bits s h =
+    let e₁ : s / 1 ≡ s = omega arith in
+    let e₄ : s / 4 ≡ s / 2 / 2 = omega arith in
+    let e₈ : s / 8 ≡ s / 2 / 2 / 2 = omega arith in
+    rw (e₁, e₄, e₈) (omega arith)
+
+forth : (s : ℕ) → s ≤ 15 → setOf (settingsOf s) ≡ s
+unfolding setOf bitAt
+forth s h =
+    let t = through-each s in
+    rw (t .0, t .1, t .2, t .3, weighed-bit s 0 1, weighed-bit s 1 2, weighed-bit s 2 4, weighed-bit s 3 8) (sum-of-bits s h)
+
+pub examples : Examples
+unfolding settingsOf boardOf contains bitAt through isThrough
+examples = record { units = refl; one = refl }
+
+pub sets : Sets
+sets = record { back = back; forth = forth; through = through-each }
+
+most : (t : Bool) (w : ℕ) → weighed t w ≤ w
+unfolding weighed
+most true w = omega arith
+most false w = omega arith
+
+pub set-small : (g : Settings) → setOf g ≤ 15
+unfolding setOf
+set-small g = omega (arith, most (through g 0) 1, most (through g 1) 2, most (through g 2) 4, most (through g 3) 8)

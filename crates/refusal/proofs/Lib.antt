@@ -1,2 +1,0 @@
--- Laws that the test of the directory rests on.
-mod Faults

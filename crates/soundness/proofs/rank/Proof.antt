@@ -1,0 +1,29 @@
+-- `soundness::rank` meets its contract.
+use borrow.Author.Needs.{needs}
+use Rattle.coherence.specs.Slots.{stateNumber}
+use Rattle.soundness.proofs.rank.Statement.{statement}
+use Rattle.soundness.proofs.rank.Tie as tie
+
+enum-told : tie.Need-enum-told
+enum-told c = search needs
+
+enum-told-2 : tie.Need-enum-told-2
+enum-told-2 c = search needs
+
+enum-told-3 : tie.Need-enum-told-3
+enum-told-3 c = search needs
+
+returns : tie.Need-returns
+unfolding stateNumber
+returns c = search needs
+
+returns-2 : tie.Need-returns-2
+unfolding stateNumber
+returns-2 c = search needs
+
+returns-3 : tie.Need-returns-3
+unfolding stateNumber
+returns-3 c = search needs
+
+pub rank-spec : {M : Type 1} → statement M
+rank-spec = tie.close (tie.spec enum-told enum-told-2 enum-told-3 returns returns-2 returns-3)
