@@ -1,6 +1,6 @@
 -- `soundness::modified_count` meets its contract.
 use Prim.Native.Nat.{_≤_, _-_}
-use mathlib.Core.Path.{_≡_, sym, _∙_}
+use mathlib.Core.Path.{_≡_}
 use native.Mathlib.Omega.{arith}
 use Rattle.soundness.specs.Soundness.{modifiedBelow}
 use Rattle.soundness.proofs.KindLaws.{none-modified-yet, modified-more}
