@@ -24,7 +24,7 @@ int main(void)
     size_t place = 0, next = 0;
     uint64_t n[TRAINER_RECORD];
 
-    if (trainer_cold_start(memory, sizeof memory, cache, sizeof cache, 0, directory, sizeof directory) != 0)
+    if (trainer_cold_start(memory, sizeof memory, cache, sizeof cache, 0, 0, directory, sizeof directory) != 0)
         return 1;
     while (place < sizeof tape) {
         uint32_t refusal = trainer_read_record(tape, sizeof tape, place, &next, n, TRAINER_RECORD);

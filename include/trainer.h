@@ -27,7 +27,7 @@ enum {
   TRAINER_CUT = 5,              /* a tape that ends before a number is complete, or a place past its end */
   TRAINER_BAD_NUMBER = 6,       /* a number that is not spelled as it must be */
   TRAINER_UNKNOWN_KIND = 7,     /* a record of kind 7, or of 9 and above; an address cycle that is no interrupt request */
-  TRAINER_FIELD_RANGE = 8,      /* a field out of its range */
+  TRAINER_FIELD_RANGE = 8,      /* a field out of its range; steal above 1 */
   TRAINER_NO_ROOM = 9,          /* a lent space that is too small; a message above TRAINER_MESSAGE bytes */
   TRAINER_BAD_STATE = 10,       /* a handler's or a receiver's state out of range */
   TRAINER_OTHER_SOURCE = 11,    /* an operation of another sender or AID than the message's */
@@ -35,17 +35,17 @@ enum {
   TRAINER_HALVES_DIFFER = 17    /* an address cycle whose halves differ */
 };
 
-/* ---- The cache machine (document 01, and document 02, T-05) */
+/* ---- The cache machine (document 01, and document 02, T-05 and T-13) */
 
 /* Processors; slots of each; blocks of memory; bytes of a block; bytes of the memory store, and of the cache store. Block b lies at 32 b in
  * memory; slot s of unit u lies at 512 u + 32 s in the cache store. */
 enum { TRAINER_UNITS = 4, TRAINER_SLOTS = 16, TRAINER_BLOCKS = 64, TRAINER_BLOCK = 32, TRAINER_STORE = 2048 };
 
 /* Bytes of the directory. Slot s of unit u stands at 2 (16 u + s): its state, then its block (0 if it is invalid). Byte 128 has the kinds: it is
- * the set of the units that have a write-through board, unit 0 having weight 1, unit 3 weight 8; the other units have copyback boards. Bytes
- * that do not stand for a directory that keeps the rules are refused with TRAINER_BROKEN_DIRECTORY, a set above 15 and a write-through unit
- * with a modified slot too. */
-enum { TRAINER_DIRECTORY = 129 };
+ * the set of the units that have a write-through board, unit 0 having weight 1, unit 3 weight 8; the other units have copyback boards. Byte 129
+ * is 1 with steal on, 0 with steal off. A call keeps both bytes. Bytes that do not stand for a directory that keeps the rules are refused with
+ * TRAINER_BROKEN_DIRECTORY, a set above 15, a write-through unit with a modified slot and steal above 1 too. */
+enum { TRAINER_DIRECTORY = 130 };
 
 /* The states of a slot: invalid (I), shared and unmodified (SU), exclusive and modified (EM). A slot of a write-through unit is never EM. */
 enum { TRAINER_INVALID = 0, TRAINER_SHARED = 1, TRAINER_MODIFIED = 2 };
@@ -55,19 +55,20 @@ enum { TRAINER_READ = 0, TRAINER_MODIFIED_READ = 1, TRAINER_INVALIDATE = 2, TRAI
 
 /* Numbers in the answer of a call: the loaded value (0 for a store and a flush), how many orders were given, and from TRAINER_FIRST_ORDER on
  * TRAINER_ORDERS orders of TRAINER_ORDER numbers: unit, command, block, retried (0 or 1). Only a read, a modified read and a memory write are
- * retried, when another unit has the block EM. Orders that were not given are 0. */
+ * retried, when another unit has the block EM; that unit's copyback follows, and then the same order again. With steal on a read and a modified
+ * read are not given again: the asker takes the block during the copyback. Orders that were not given are 0. */
 enum { TRAINER_ANSWER = 18, TRAINER_VALUE = 0, TRAINER_COUNT = 1, TRAINER_FIRST_ORDER = 2, TRAINER_ORDERS = 4, TRAINER_ORDER = 4 };
 
 /* The stores that trainer_peek names. */
 enum { TRAINER_IN_MEMORY = 0, TRAINER_IN_CACHE = 1 };
 
 /* Starts cold: every byte of the cache store becomes 0, and the first TRAINER_DIRECTORY bytes of the directory's space a directory that is all
- * invalid. write_through is the set of the units that have a write-through board, in the weights of byte 128. Refusals: 9 if the directory's
- * space is below TRAINER_DIRECTORY bytes; then 3 (a set above 15: it names a unit above 3); then 1, and the directory becomes all invalid with
- * the chosen kinds all the same. */
+ * invalid. write_through is the set of the units that have a write-through board, in the weights of byte 128; steal is on (1) or off (0).
+ * Refusals: 9 if the directory's space is below TRAINER_DIRECTORY bytes; then 3 (a set above 15: it names a unit above 3); then 8 (steal above
+ * 1); then 1, and the directory becomes all invalid with the chosen kinds and steal all the same. */
 uint32_t trainer_cold_start(const uint8_t *memory, size_t memory_size,
                             uint8_t *cache, size_t cache_size,
-                            uint32_t write_through,
+                            uint32_t write_through, uint32_t steal,
                             uint8_t *directory, size_t directory_size);
 
 /* Unit loads the word at address. Refusals: 9 if the answer's space is below TRAINER_ANSWER numbers; then 1, 2, 3, 4. */

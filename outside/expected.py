@@ -164,10 +164,11 @@ I, SU, EM = range(3)
 
 
 class Machine:
-    def __init__(self, slots, memory, cache, write_through=0):
-        """Slots are a map from (unit, slot) to [state, block]; write_through is the set of the write-through units, unit 0 having weight 1 (T-05)."""
+    def __init__(self, slots, memory, cache, write_through=0, steal=0):
+        """Slots are a map from (unit, slot) to [state, block]; write_through is the set of the write-through units, unit 0 having weight 1 (T-05); steal is 1
+        where it is on (T-13)."""
         self.slots = {**{(u, s): [I, 0] for u in range(4) for s in range(16)}, **slots}
-        self.memory, self.cache, self.orders, self.write_through = memory, cache, [], write_through
+        self.memory, self.cache, self.orders, self.write_through, self.steal = memory, cache, [], write_through, steal
 
     def writes_through(self, unit):
         return self.write_through // 2**unit % 2 == 1
@@ -181,10 +182,10 @@ class Machine:
             kept = state <= (SU if self.writes_through(u) else EM)
             return kept and block <= 63 and block % 16 == s and alone
 
-        return self.write_through > 15 or not all(rule(u, s) for u, s in self.slots)
+        return self.write_through > 15 or self.steal > 1 or not all(rule(u, s) for u, s in self.slots)
 
     def directory(self):
-        return sum((list(self.slots[n // 16, n % 16]) for n in range(64)), []) + [self.write_through]
+        return sum((list(self.slots[n // 16, n % 16]) for n in range(64)), []) + [self.write_through, self.steal]
 
     def refusal(self, tests, unit, address, block):
         faults = {
@@ -209,13 +210,15 @@ class Machine:
         return [v for v in range(4) if v != unit and self.held(v, block)]
 
     def ask(self, unit, block, command):
-        """The order, and where another unit holds the block EM: retried, that unit's copyback, and the order again."""
+        """The order, and where another unit holds the block EM: retried, that unit's copyback, and the order again. With steal on a read or modified read is not
+        given again: what the copyback leaves in memory is what the asker takes as it passes (T-13)."""
         holder = [v for v in self.others(unit, block) if self.held(v, block) == EM]
         self.order(unit, command, block, len(holder))
         if holder:
             self.order(holder[0], COPYBACK, block)
             self.slots[holder[0], block % 16] = [SU, block]
-            self.order(unit, command, block)
+            if not self.steal or command == MEMORY_WRITE:
+                self.order(unit, command, block)
 
     def fetch(self, unit, block, command):
         slot = unit, block % 16
@@ -289,12 +292,12 @@ def changes(before, after):
 
 def machine_of(memory_size, cache_size, pairs):
     """A machine whose directory has these bytes, place and byte of each: slot n = 16 u + s has its state at 2 n and its block behind it, the set of the
-    write-through units stands at 128."""
-    directory = [0] * 129
+    write-through units stands at 128, steal at 129."""
+    directory = [0] * 130
     for place, byte in zip(pairs[::2], pairs[1::2]):
         directory[place] = byte
     slots = {(n // 16, n % 16): directory[2 * n : 2 * n + 2] for n in range(64)}
-    return Machine(slots, filled(0, memory_size), filled(128, cache_size), directory[128])
+    return Machine(slots, filled(0, memory_size), filled(128, cache_size), *directory[128:])
 
 
 def machine(memory_size, cache_size, target, call, unit, value, *pairs):
@@ -304,7 +307,7 @@ def machine(memory_size, cache_size, target, call, unit, value, *pairs):
     if not refusal:
         given[0] = [lambda: m.load(unit, target), lambda: m.store(unit, target, value), lambda: m.flush(unit, target)][call]()
         given[1 : 2 + 4 * len(m.orders)] = [len(m.orders)] + sum(m.orders, [])
-    lent = [([0] * 129, m.directory()), (filled(0, memory_size), m.memory), (filled(128, cache_size), m.cache)]
+    lent = [([0] * 130, m.directory()), (filled(0, memory_size), m.memory), (filled(128, cache_size), m.cache)]
     return [refusal] + given, "".join(";" + changes(before, after) for before, after in lent)
 
 
@@ -318,15 +321,15 @@ def newest(memory_size, cache_size, block, *rest):
     return [0, 1, 512 * owners[0] + 32 * (block % 16)] if owners else [0, 0, 32 * block]
 
 
-def start(memory_size, cache_size, write_through=0, *rest):
-    """A cold start tests 1; refused, its directory is all invalid and holds the chosen kinds too (T-05). A set that names a unit above 3 is refused with 3
-    before that, and changes nothing."""
-    m = machine_of(memory_size, cache_size, rest[3:])
-    refusal, directory, cache = 3, m.directory(), m.cache
-    if write_through <= 15:
-        refusal, directory = m.refusal([1], 0, 0, 0), [0] * 128 + [write_through]
+def start(memory_size, cache_size, write_through=0, steal=0, *rest):
+    """A cold start tests 1; refused, its directory is all invalid and holds the chosen kinds too (T-05), and the chosen steal, which is kept like them (T-13).
+    Before that a set that names a unit above 3 is refused with 3, and then steal that is neither on nor off with 8; these two change nothing."""
+    m = machine_of(memory_size, cache_size, rest[2:])
+    refusal, directory, cache = 3 if write_through > 15 else 8 if steal > 1 else 0, m.directory(), m.cache
+    if not refusal:
+        refusal, directory = m.refusal([1], 0, 0, 0), [0] * 128 + [write_through, steal]
         cache = m.cache if refusal else [0] * 2048
-    return [refusal], ";" + changes([0] * 129, directory) + ";" + changes(filled(128, cache_size), cache)
+    return [refusal], ";" + changes([0] * 130, directory) + ";" + changes(filled(128, cache_size), cache)
 
 
 def drill(room, *tape):

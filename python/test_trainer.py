@@ -14,10 +14,23 @@ DRILL = bytes.fromhex("01004809 00014801 01480A00 00C80400 01C80402 0102")
 
 
 class Case(unittest.TestCase):
+    MEMORY = bytes(n % 251 for n in range(2048))
+
     def refused(self, number, name, call, *given, place=None):
         with self.assertRaises(Refused) as caught:
             call(*given)
         self.assertEqual((caught.exception.number, caught.exception.name, caught.exception.place), (number, name, place))
+
+    def slots(self, machine, slot):
+        return [machine.slot(unit, slot) for unit in range(4)]
+
+    def broken(self, machine, place, byte):
+        """With this byte at this place of the directory each call is refused with 2, before 3 and 4."""
+        machine._directory[place] = byte
+        self.refused(2, "broken directory", machine.peek, 64)
+        self.refused(2, "broken directory", machine.load, 4, 1)
+        self.refused(2, "broken directory", machine.store, 4, 1, 0)
+        self.refused(2, "broken directory", machine.flush, 4, 64)
 
 
 class Machines(Case):
@@ -63,11 +76,6 @@ class Machines(Case):
 
 class WriteThrough(Case):
     """Machines of which some units have write-through boards."""
-
-    MEMORY = bytes(n % 251 for n in range(2048))
-
-    def slots(self, machine, slot):
-        return [machine.slot(unit, slot) for unit in range(4)]
 
     def test_the_kinds_are_kept(self):
         for number in range(16):
@@ -147,44 +155,157 @@ class WriteThrough(Case):
             self.assertRaises(OverflowError, trainer.Machine, self.MEMORY, (0, bad))
 
     def test_what_a_cold_start_writes(self):
-        # Bytes of the memory store, of the cache store and of the directory's space; the set; the refusal.
-        cases = [(2047, 2048, 128, 16, 9), (2047, 2048, 129, 16, 3), (2048, 2048, 130, 2**32 - 1, 3), (2047, 2048, 130, 10, 1), (2048, 2047, 129, 15, 1)]
-        for memory_size, cache_size, space, chosen, number in cases + [(2048, 2048, 130, 5, 0), (2048, 2048, 129, 0, 0)]:
-            with self.subTest(number, chosen=chosen):
+        # Bytes of the memory store, of the cache store and of the directory's space; the set; steal; the refusal.
+        cases = [(2047, 2048, 129, 16, 2, 9), (2047, 2048, 130, 16, 2, 3), (2048, 2048, 131, 2**32 - 1, 0, 3), (2047, 2048, 130, 15, 2, 8)]
+        cases += [(2048, 2048, 131, 0, 2**32 - 1, 8), (2047, 2048, 131, 10, 1, 1), (2048, 2047, 130, 15, 0, 1)]
+        for memory_size, cache_size, space, chosen, steal, number in cases + [(2048, 2048, 131, 5, 1, 0), (2048, 2048, 130, 0, 0, 0)]:
+            with self.subTest(number, chosen=chosen, steal=steal):
                 memory, cache, directory = (trainer._bytes(b"\xee" * size) for size in (memory_size, cache_size, space))
-                self.assertEqual(trainer._call("cold_start", memory, cache, trainer._u32(chosen), directory), number)
-                written = b"" if number in (9, 3) else bytes(128) + bytes([chosen])
+                self.assertEqual(trainer._call("cold_start", memory, cache, trainer._u32(chosen), trainer._u32(steal), directory), number)
+                written = b"" if number in (9, 3, 8) else bytes(128) + bytes([chosen, steal])
                 self.assertEqual(bytes(directory), written + b"\xee" * (space - len(written)))
                 self.assertEqual((set(memory), set(cache)), ({0xEE}, {0xEE if number else 0}))
-
-    def broken(self, machine, kinds):
-        """With these kinds in the directory each call is refused with 2, before 3 and 4."""
-        machine._directory[128] = kinds
-        self.refused(2, "broken directory", machine.peek, 64)
-        self.refused(2, "broken directory", machine.load, 4, 1)
-        self.refused(2, "broken directory", machine.store, 4, 1, 0)
-        self.refused(2, "broken directory", machine.flush, 4, 64)
 
     def test_kinds_that_are_no_set_of_units(self):
         machine = trainer.Machine()
         for kinds in (16, 17, 128, 255):
-            self.broken(machine, kinds)
-        for size in (128, 130):
+            self.broken(machine, 128, kinds)
+        for size in (129, 131):
             machine._directory = trainer._bytes(bytes(size))
             self.refused(2, "broken directory", machine.load, 0, 0)
 
     def test_a_modified_slot_of_a_write_through_unit(self):
         machine = trainer.Machine()
         machine.store(0, 72, 9)
-        self.broken(machine, 1)
-        self.broken(machine, 15)
+        self.broken(machine, 128, 1)
+        self.broken(machine, 128, 15)
         for kinds in (2, 14, 0):
             machine._directory[128] = kinds
             self.assertEqual(machine.load(0, 72), (9, ()))
 
 
+class Steal(Case):
+    """Machines with steal on."""
+
+    PAIRS = [(asker, holder) for asker in range(4) for holder in range(4) if asker != holder]
+
+    def retried(self, asker, command, holder):
+        """The order for block 2, retried, and the holder's copyback."""
+        return (Order(asker, command, 2, True), Order(holder, Command.COPYBACK, 2, False))
+
+    def copies(self, machine, *units):
+        """The 32 bytes of each unit's slot 2."""
+        return [machine.cache[512 * unit + 64 :][:32] for unit in units]
+
+    def block(self, *words):
+        """Block 2 of MEMORY with these words at 72."""
+        new = b"".join(word.to_bytes(4, "big") for word in words)
+        return self.MEMORY[64:72] + new + self.MEMORY[72 + len(new) : 96]
+
+    def test_steal_is_kept(self):
+        for number in range(32):
+            chosen, steal = {unit for unit in range(4) if number >> unit & 1}, number > 15
+            machine = trainer.Machine(write_through=chosen, steal=steal)
+            machine.store(0, 72, 9)
+            machine.load(1, 72)
+            machine.store(2, 72, 10)
+            machine.flush(2, 2)
+            self.assertEqual((machine.steal, machine.write_through, machine._directory[129]), (steal, chosen, number // 16))
+        self.assertIs(trainer.Machine().steal, False)
+        self.assertIs(trainer.Machine(steal=1).steal, True)
+        self.assertRaises(AttributeError, setattr, trainer.Machine(), "steal", True)
+
+    def test_a_stolen_read(self):
+        for asker, holder in self.PAIRS:
+            with self.subTest(asker=asker, holder=holder):
+                machine = trainer.Machine(self.MEMORY, steal=True)
+                machine.store(holder, 72, 9)
+                machine.store(holder, 76, 5)
+                self.assertEqual(machine.load(asker, 72), (9, self.retried(asker, Command.READ, holder)))
+                shared = [Slot(State.SHARED, 2) if unit in (asker, holder) else Slot(State.INVALID, 0) for unit in range(4)]
+                self.assertEqual(self.slots(machine, 2), shared)
+                self.assertEqual([machine.memory[64:96]] + self.copies(machine, asker, holder), [self.block(9, 5)] * 3)
+                self.assertEqual(machine.load(asker, 76), (5, ()))
+
+    def test_a_stolen_modified_read(self):
+        for asker, holder in self.PAIRS:
+            with self.subTest(asker=asker, holder=holder):
+                machine = trainer.Machine(self.MEMORY, steal=True)
+                machine.store(holder, 72, 9)
+                self.assertEqual(machine.store(asker, 76, 5), (0, self.retried(asker, Command.MODIFIED_READ, holder)))
+                # The old holder becomes I; its bytes stay, and memory has them too.
+                self.assertEqual(self.slots(machine, 2), [Slot(State.MODIFIED, 2) if unit == asker else Slot(State.INVALID, 0) for unit in range(4)])
+                self.assertEqual([machine.memory[64:96]] + self.copies(machine, holder, asker), [self.block(9)] * 2 + [self.block(9, 5)])
+                self.assertEqual(machine.peek(2), self.block(9, 5))
+
+    def test_another_block_modified_in_the_slot(self):
+        for asker, holder in self.PAIRS:
+            with self.subTest(asker=asker, holder=holder):
+                evicted = (Order(asker, Command.COPYBACK, 18, False),)
+                for store in (False, True):
+                    machine = trainer.Machine(self.MEMORY, steal=True)
+                    machine.store(holder, 72, 9)
+                    machine.store(asker, 584, 1)
+                    orders = (machine.store(asker, 72, 5) if store else machine.load(asker, 72)).orders
+                    self.assertEqual(orders, evicted + self.retried(asker, Command.MODIFIED_READ if store else Command.READ, holder))
+                    self.assertEqual((machine.memory[64:96], machine.memory[584:588]), (self.block(9), bytes([0, 0, 0, 1])))
+                    self.assertEqual(machine.load(asker, 72), (5 if store else 9, ()))
+
+    def test_with_write_through_units(self):
+        machine = trainer.Machine(self.MEMORY, (1, 2), steal=True)
+        machine.store(3, 72, 9)
+        machine.load(1, 584)
+        self.assertEqual(machine.load(1, 72), (9, self.retried(1, Command.READ, 3)))
+        self.assertEqual(self.slots(machine, 2), [Slot(State.INVALID, 0), Slot(State.SHARED, 2), Slot(State.INVALID, 0), Slot(State.SHARED, 2)])
+        # A memory write is given again.
+        machine.store(3, 72, 10)
+        again = (Order(2, Command.MEMORY_WRITE, 2, False),)
+        self.assertEqual(machine.store(2, 76, 5), (0, self.retried(2, Command.MEMORY_WRITE, 3) + again))
+        self.assertEqual((self.slots(machine, 2), machine.memory[64:96]), ([Slot(State.INVALID, 0)] * 4, self.block(10, 5)))
+        self.assertEqual(machine.store(2, 76, 6), (0, again))
+
+    def test_with_steal_off_the_order_is_given_again(self):
+        machine = trainer.Machine(self.MEMORY)
+        machine.store(0, 72, 9)
+        self.assertEqual(machine.store(1, 76, 5).orders, self.retried(1, Command.MODIFIED_READ, 0) + (Order(1, Command.MODIFIED_READ, 2, False),))
+        self.assertEqual(machine.load(3, 72), (9, self.retried(3, Command.READ, 1) + (Order(3, Command.READ, 2, False),)))
+
+    def test_orders_that_are_not_retried(self):
+        # With steal on and off the same: missed, beside an SU holder, held, SU, EM, missed by a store, with an EM block in the slot, memory write, flush.
+        calls = [("load", 0, 72), ("load", 3, 72), ("load", 3, 76), ("store", 3, 72, 7), ("store", 3, 76, 8), ("store", 2, 96, 9), ("load", 2, 608)]
+        calls += [("store", 0, 608, 6), ("store", 0, 96, 5), ("store", 1, 608, 4), ("flush", 0, 2), ("flush", 3, 2)]
+        machines = [trainer.Machine(self.MEMORY, (1,), steal) for steal in (False, True)]
+        counts = []
+        for name, *numbers in calls:
+            off, on = (getattr(machine, name)(*numbers) for machine in machines)
+            self.assertEqual(off, on)
+            counts.append(len(on.orders))
+        self.assertEqual(counts, [1, 1, 0, 1, 0, 1, 2, 1, 2, 1, 0, 1])
+        self.assertEqual(*((machine.memory, machine.cache, bytes(machine._directory[:129])) for machine in machines))
+
+    def test_steal_refused_at_cold_start(self):
+        for steal in (2, 3, 255, 256, 2**32 - 1):
+            self.refused(8, "field range", trainer.Machine, self.MEMORY, (), steal)
+        self.refused(8, "field range", trainer.Machine, self.MEMORY[1:], (3,), 2)
+        self.refused(3, "no unit", trainer.Machine, self.MEMORY[1:], (4,), 2)
+        self.refused(1, "wrong size", trainer.Machine, self.MEMORY[1:], (3,), True)
+
+    def test_steal_that_is_no_32_bit_number_overflows(self):
+        for bad in (-1, 2**32):
+            self.assertRaises(OverflowError, trainer.Machine, self.MEMORY, (), bad)
+
+    def test_steal_above_1_in_the_directory(self):
+        machine = trainer.Machine()
+        machine.store(0, 72, 9)
+        for steal in (2, 3, 128, 255):
+            self.broken(machine, 129, steal)
+        for steal in (1, 0):
+            machine._directory[129] = steal
+            self.assertEqual(machine.load(0, 72), (9, ()))
+
+
 class PlainMemory(Case):
-    """Lists of calls beside a plain memory, on machines with each set of write-through boards."""
+    """Lists of calls beside a plain memory, on machines with each set of write-through boards, with steal on and off."""
 
     # How many write-through and how many copyback boards a machine needs for an order, at least; then whether it is of a write-through unit, its
     # command, and whether it is retried.
@@ -201,12 +322,19 @@ class PlainMemory(Case):
         (0, 2, False, Command.MODIFIED_READ, True),
     ]
 
+    def check_retried(self, orders, steal):
+        """Behind a retried order stands the holder's copyback, and then the order again, but for a read and a modified read with steal on."""
+        for at, order in enumerate(orders):
+            if order.retried:
+                again = () if steal and order.command != Command.MEMORY_WRITE else (order._replace(retried=False),)
+                self.assertEqual((orders[at + 1].command, orders[at + 2 :]), (Command.COPYBACK, again))
+
     def call(self, machine, plain, chance):
         """A call at random on both: how many orders the bill allows it, and those that it gave."""
         unit, address, value = chance.randrange(4), 4 * chance.choice((0, 1, 128, 129, 256, 511)), chance.randrange(2**32)
         kind = chance.randrange(5)
         if kind < 2:
-            allowed, reply = 3, machine.store(unit, address, value)
+            allowed, reply = 2 if machine.steal else 3, machine.store(unit, address, value)
             plain[address : address + 4] = value.to_bytes(4, "big")
         elif kind < 4:
             allowed, reply = 1, machine.load(unit, address)
@@ -216,25 +344,32 @@ class PlainMemory(Case):
         self.assertEqual(machine.peek(address // 32), plain[address // 32 * 32 :][:32])
         return allowed, reply.orders
 
-    def orders_of_a_list(self, chosen):
+    def orders_of_a_list(self, chosen, steal):
         """The sorts of orders that a list of calls gave, as the rows of ORDERS have them."""
         chance = random.Random(1)
         plain = bytearray(chance.randrange(256) for _ in range(2048))
-        machine = trainer.Machine(plain, chosen)
+        machine = trainer.Machine(plain, chosen, steal)
         bill, count, sorts = 0, 0, set()
         for _ in range(1000):
             allowed, orders = self.call(machine, plain, chance)
             bill, count = bill + allowed, count + len(orders)
             self.assertLessEqual(count, bill)
+            self.check_retried(orders, steal)
             sorts |= {(order.unit in chosen, order.command, order.retried) for order in orders}
         return sorts
 
     def test_lists_of_calls(self):
-        for number in range(16):
-            chosen = {unit for unit in range(4) if number >> unit & 1}
-            with self.subTest(write_through=chosen):
+        for number in range(32):
+            chosen, steal = {unit for unit in range(4) if number >> unit & 1}, number > 15
+            with self.subTest(write_through=chosen, steal=steal):
                 sorts = {tuple(row[2:]) for row in self.ORDERS if row[0] <= len(chosen) and row[1] <= 4 - len(chosen)}
-                self.assertEqual(self.orders_of_a_list(chosen), sorts)
+                self.assertEqual(self.orders_of_a_list(chosen, steal), sorts)
+
+    def test_the_bill_is_met(self):
+        # A store and another unit's load; with steal on also a store and a write-through unit's store.
+        for steal, name, numbers, counts in ((False, "load", (1, 72), (1, 3)), (True, "load", (1, 72), (1, 2)), (True, "store", (1, 72, 12), (1, 3))):
+            machine = trainer.Machine(write_through=(1,), steal=steal)
+            self.assertEqual((len(machine.store(0, 72, 9).orders), len(getattr(machine, name)(*numbers).orders)), counts)
 
 
 class Tapes(Case):
@@ -375,6 +510,11 @@ class Tapes(Case):
         lines = [f"store {unit} {32 * unit} 9 orders {orders}\n" for unit in range(4) for orders in (1, 0)]
         self.assertEqual(trainer.drill(tape), "".join(lines) + "total 8 calls 4 orders\n")
         self.assertEqual(trainer.drill(bytes.fromhex("03 02 05 02 00")), "refused 8 at 2\n")
+
+    def test_retried_orders_in_a_drill(self):
+        # The drill's steal is off: a retried order is given again.
+        text = "store 0 72 9 orders 1\nstore 1 72 10 orders 3\nload 2 72 10 orders 3\ntotal 3 calls 7 orders\n"
+        self.assertEqual(trainer.drill(bytes.fromhex("01004809 0101480A 000248")), text)
 
     def test_drill(self):
         self.assertEqual(trainer.drill(b""), "total 0 calls 0 orders\n")

@@ -24,7 +24,7 @@ from typing import FrozenSet, Iterable, Iterator, List, NamedTuple, Optional, Tu
 STORE = 2048  # bytes of the memory store, and of the cache store
 BLOCK = 32  # bytes of a block
 MESSAGE = 4096  # the most bytes of a message
-_DIRECTORY, _ANSWER, _RECORD, _TEXT, _NO_OWNER = 129, 18, 7, 720_960, 8
+_DIRECTORY, _ANSWER, _RECORD, _TEXT, _NO_OWNER = 130, 18, 7, 720_960, 8
 
 # ---- Refusals
 
@@ -170,13 +170,13 @@ def _boards(units: Iterable[int]) -> _Number:
 
 class Machine:
     """Four processors with their caches, started cold on a memory of 2,048 bytes. The units of `write_through` have write-through boards, the others
-    copyback boards."""
+    copyback boards. With `steal` a read or modified read that is retried is not given again: the unit takes the block during the holder's copyback."""
 
-    def __init__(self, memory: Union[bytes, bytearray] = bytes(STORE), write_through: Iterable[int] = ()) -> None:
+    def __init__(self, memory: Union[bytes, bytearray] = bytes(STORE), write_through: Iterable[int] = (), steal: bool = False) -> None:
         self._memory = _bytes(memory)
         self._cache = (_U8 * STORE)()
         self._directory = (_U8 * _DIRECTORY)()
-        _do("cold_start", self._memory, self._cache, _boards(write_through), self._directory)
+        _do("cold_start", self._memory, self._cache, _boards(write_through), _u32(int(steal)), self._directory)
 
     def _access(self, name: str, *numbers: int) -> Reply:
         answer = (_U32 * _ANSWER)()
@@ -214,6 +214,11 @@ class Machine:
     def write_through(self) -> FrozenSet[int]:
         """The units that have write-through boards, as the directory has them."""
         return frozenset(unit for unit in range(4) if self._directory[128] >> unit & 1)
+
+    @property
+    def steal(self) -> bool:
+        """Whether steal is on, as the directory has it."""
+        return self._directory[129] == 1
 
     @property
     def memory(self) -> bytes:

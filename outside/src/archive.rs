@@ -14,7 +14,7 @@ mod foreign {
         pub fn trainer_cold_start(
             memory: *const u8, memory_size: usize,
             cache: *mut u8, cache_size: usize,
-            write_through: u32,
+            write_through: u32, steal: u32,
             directory: *mut u8, directory_size: usize,
         ) -> u32;
         pub fn trainer_load(
@@ -108,12 +108,12 @@ mod foreign {
     }
 }
 
-pub fn cold_start(memory: &[u8], cache: &mut [u8], write_through: u32, directory: &mut [u8]) -> u32 {
+pub fn cold_start(memory: &[u8], cache: &mut [u8], write_through: u32, steal: u32, directory: &mut [u8]) -> u32 {
     unsafe {
         foreign::trainer_cold_start(
             memory.as_ptr(), memory.len(),
             cache.as_mut_ptr(), cache.len(),
-            write_through,
+            write_through, steal,
             directory.as_mut_ptr(), directory.len(),
         )
     }

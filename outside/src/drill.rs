@@ -20,7 +20,7 @@ pub fn drill(tape: &[u8]) -> String {
     if tape.len() > LONGEST_TAPE {
         return format!("refused 9 at {LONGEST_TAPE}\n");
     }
-    let mut machine = Machine::cold(&[0; STORE_BYTES], ALL_COPYBACK);
+    let mut machine = Machine::cold(&[0; STORE_BYTES], ALL_COPYBACK, false);
     let (mut text, mut place, mut calls, mut orders) = (String::new(), 0, 0, 0);
     loop {
         let record = match tape::read(tape, place) {
@@ -92,6 +92,13 @@ mod tests {
             let text = format!("store {unit} 72 9 orders 1\nstore {unit} 72 10 orders 0\ntotal 2 calls 1 orders\n");
             assert_eq!(drill(&store_twice(unit)), text);
         }
+    }
+
+    /// Steal is off: each order that is retried is given again.
+    #[test]
+    fn retried_orders_are_given_again() {
+        let text = "store 0 72 9 orders 1\nstore 1 72 10 orders 3\nload 2 72 10 orders 3\ntotal 3 calls 7 orders\n";
+        assert_eq!(drill(&[0x01, 0x00, 0x48, 0x09, 0x01, 0x01, 0x48, 0x0A, 0x00, 0x02, 0x48]), text);
     }
 
     #[test]

@@ -1,5 +1,5 @@
 //! The cache machine. A unit is the kind of its board and a map from the blocks it holds to how it holds them, with the copies beside it;
-//! the two stores and the directory's bytes are taken in before a call and given back after it.
+//! whether steal is on stands beside the units. The two stores and the directory's bytes are taken in before a call and given back after it.
 use std::collections::BTreeMap;
 
 pub const UNITS: usize = 4;
@@ -8,10 +8,12 @@ pub const BLOCKS: usize = 64;
 pub const BLOCK_BYTES: usize = 32;
 pub const STORE_BYTES: usize = 2048;
 /// Two bytes for each slot, slot s of unit u at 2 (16 u + s): state 0 I, 1 SU, 2 EM, then the block. Behind them the set of
-/// the units that have a write-through board.
-pub const DIRECTORY_BYTES: usize = 129;
+/// the units that have a write-through board, and whether steal is on.
+pub const DIRECTORY_BYTES: usize = 130;
 /// The place of that set.
 pub const SET_PLACE: usize = 128;
+/// The place of steal.
+pub const STEAL_PLACE: usize = 129;
 
 pub const WRONG_SIZE: u32 = 1;
 pub const BROKEN_DIRECTORY: u32 = 2;
@@ -33,6 +35,11 @@ pub const ALL_COPYBACK: Kinds = [Kind::Copyback; UNITS];
 pub fn kinds_of(set: u32) -> Option<Kinds> {
     let kind = |unit| if set >> unit & 1 == 1 { Kind::WriteThrough } else { Kind::Copyback };
     (set < 1 << UNITS).then(|| std::array::from_fn(kind))
+}
+
+/// Whether steal is on by its number, 1 or 0; `None` above that.
+pub fn steal_of(number: u32) -> Option<bool> {
+    (number <= 1).then_some(number == 1)
 }
 
 #[derive(Clone, Copy, Debug, PartialEq, Eq)]
@@ -92,6 +99,7 @@ struct Unit {
 pub struct Machine {
     units: Vec<Unit>,
     memory: Vec<Line>,
+    steal: bool,
 }
 
 fn lines(store: &[u8]) -> Vec<Line> {
@@ -132,10 +140,10 @@ fn units_of(directory: &[u8]) -> Option<(Kinds, Vec<BTreeMap<u32, Held>>)> {
 }
 
 impl Machine {
-    /// All slots invalid, the cache store all zeros, memory as lent, the boards' kinds as chosen.
-    pub fn cold(memory: &[u8], kinds: Kinds) -> Machine {
+    /// All slots invalid, the cache store all zeros, memory as lent, the boards' kinds and steal as chosen.
+    pub fn cold(memory: &[u8], kinds: Kinds, steal: bool) -> Machine {
         let unit = |kind| Unit { kind, held: BTreeMap::new(), copies: [[0; BLOCK_BYTES]; SLOTS] };
-        Machine { units: kinds.map(unit).to_vec(), memory: lines(memory) }
+        Machine { units: kinds.map(unit).to_vec(), memory: lines(memory), steal }
     }
 
     /// The machine that directory and stores describe: tests 1, then 2.
@@ -144,6 +152,7 @@ impl Machine {
             return Err(WRONG_SIZE);
         }
         let (kinds, held) = units_of(directory).ok_or(BROKEN_DIRECTORY)?;
+        let steal = steal_of(directory[STEAL_PLACE].into()).ok_or(BROKEN_DIRECTORY)?;
         let copies = lines(cache);
         let units = kinds
             .into_iter()
@@ -151,7 +160,7 @@ impl Machine {
             .zip(copies.chunks_exact(SLOTS))
             .map(|((kind, held), copies)| Unit { kind, held, copies: copies.try_into().expect("sixteen slots") })
             .collect();
-        Ok(Machine { units, memory: lines(memory) })
+        Ok(Machine { units, memory: lines(memory), steal })
     }
 
     pub fn directory(&self) -> Vec<u8> {
@@ -164,6 +173,7 @@ impl Machine {
             }
             bytes[SET_PLACE] |= u8::from(unit.kind == Kind::WriteThrough) << number;
         }
+        bytes[STEAL_PLACE] = self.steal.into();
         bytes
     }
 
@@ -278,20 +288,38 @@ impl Machine {
             }
             self.units[unit].held.remove(&old);
         }
-        self.request(unit, command, block, orders);
-        self.units[unit].copies[slot] = self.memory[block as usize];
+        self.units[unit].copies[slot] = self.read(unit, command, block, orders);
         self.units[unit].held.insert(block, Held::SharedUnmodified);
     }
 
-    /// The order. Where another unit has the block EM, it is retried: that unit copies the block back and keeps it SU, and the
-    /// order is given again.
+    /// The bytes that a read or modified read brings. With steal on a retried one is not given again: the bytes are those that pass
+    /// in the holder's copyback.
+    fn read(&mut self, unit: usize, command: Command, block: u32, orders: &mut Vec<Order>) -> Line {
+        match self.modifier(block) {
+            Some(holder) if self.steal => {
+                self.retry(unit, command, block, holder, orders);
+                self.units[holder].copies[slot_of(block)]
+            }
+            _ => {
+                self.request(unit, command, block, orders);
+                self.memory[block as usize]
+            }
+        }
+    }
+
+    /// The order. Where another unit has the block EM, it is retried, and then given again.
     fn request(&mut self, unit: usize, command: Command, block: u32, orders: &mut Vec<Order>) {
         if let Some(holder) = self.modifier(block) {
-            orders.push(order(unit, command, block, true));
-            self.copyback(holder, block, orders);
-            self.units[holder].held.insert(block, Held::SharedUnmodified);
+            self.retry(unit, command, block, holder, orders);
         }
         orders.push(order(unit, command, block, false));
+    }
+
+    /// The order, retried: the unit that has the block EM copies it back and keeps it SU.
+    fn retry(&mut self, unit: usize, command: Command, block: u32, holder: usize, orders: &mut Vec<Order>) {
+        orders.push(order(unit, command, block, true));
+        self.copyback(holder, block, orders);
+        self.units[holder].held.insert(block, Held::SharedUnmodified);
     }
 
     fn copyback(&mut self, unit: usize, block: u32, orders: &mut Vec<Order>) {
@@ -328,13 +356,21 @@ mod tests {
     use Command::*;
 
     fn cold() -> Machine {
-        Machine::cold(&[0; STORE_BYTES], ALL_COPYBACK)
+        Machine::cold(&[0; STORE_BYTES], ALL_COPYBACK, false)
     }
 
     /// Cold, with write-through boards for the units of the set; a byte of memory is its block's number and 100.
-    fn mixed(set: u32) -> Machine {
+    fn machine(set: u32, steal: bool) -> Machine {
         let memory: Vec<u8> = (0..STORE_BYTES).map(|place| (100 + place / BLOCK_BYTES) as u8).collect();
-        Machine::cold(&memory, kinds_of(set).unwrap())
+        Machine::cold(&memory, kinds_of(set).unwrap(), steal)
+    }
+
+    fn mixed(set: u32) -> Machine {
+        machine(set, false)
+    }
+
+    fn stealing(set: u32) -> Machine {
+        machine(set, true)
     }
 
     fn load(unit: u32, address: u32) -> Call {
@@ -579,5 +615,168 @@ mod tests {
         assert_eq!(machine.peek(2), Ok(Newest::Memory { offset: 64 }));
         assert_eq!(orders(&mut machine, store(2, 72, 10)), [order(2, Invalidate, 2, false)]);
         assert_eq!(valid(&machine), [(2, 2, 2)]);
+    }
+
+    /// Every pair of a unit that asks and one that has the block EM.
+    fn pairs() -> impl Iterator<Item = (usize, usize)> {
+        (0..UNITS * UNITS).map(|n| (n / UNITS, n % UNITS)).filter(|(asker, holder)| asker != holder)
+    }
+
+    /// The order for block 2, retried, and the holder's copyback.
+    fn retried(asker: usize, command: Command, holder: usize) -> Vec<Order> {
+        vec![order(asker, command, 2, true), order(holder, Copyback, 2, false)]
+    }
+
+    /// Block 2 as memory has it at first, but for these words at 72 and 76.
+    fn block_2(words: [u32; 2]) -> Line {
+        let mut line = [102; BLOCK_BYTES];
+        put(&mut line, 8, words[0]);
+        put(&mut line, 12, words[1]);
+        line
+    }
+
+    #[test]
+    fn a_stolen_read() {
+        for (asker, holder) in pairs() {
+            let mut machine = stealing(0);
+            machine.call(store(holder as u32, 72, 9)).unwrap();
+            machine.call(store(holder as u32, 76, 5)).unwrap();
+            assert_eq!(machine.call(load(asker as u32, 72)), Ok(Reply { value: 9, orders: retried(asker, Read, holder) }));
+            assert_eq!(valid(&machine), [(asker.min(holder), 1, 2), (asker.max(holder), 1, 2)]);
+            let copies = [machine.units[asker].copies[2], machine.units[holder].copies[2], machine.memory[2]];
+            assert_eq!(copies, [block_2([9, 5]); 3]);
+            assert_eq!(orders(&mut machine, load(asker as u32, 76)), []);
+        }
+    }
+
+    #[test]
+    fn a_stolen_modified_read() {
+        for (asker, holder) in pairs() {
+            let mut machine = stealing(0);
+            machine.call(store(holder as u32, 72, 9)).unwrap();
+            assert_eq!(orders(&mut machine, store(asker as u32, 76, 5)), retried(asker, ModifiedRead, holder));
+            assert_eq!(valid(&machine), [(asker, 2, 2)]);
+            assert_eq!(machine.units[asker].copies[2], block_2([9, 5]));
+            assert_eq!([machine.units[holder].copies[2], machine.memory[2]], [block_2([9, 0x6666_6666]); 2]);
+            assert_eq!(machine.peek(2), Ok(Newest::Cache { offset: 512 * asker + 64 }));
+            assert_eq!(orders(&mut machine, store(asker as u32, 72, 10)), []);
+        }
+    }
+
+    /// The holder has block 2 EM with 9 at 72, and the asker block 18, in the same slot, with 1 at 584.
+    fn both_modified(asker: usize, holder: usize) -> Machine {
+        let mut machine = stealing(0);
+        machine.call(store(holder as u32, 72, 9)).unwrap();
+        machine.call(store(asker as u32, 584, 1)).unwrap();
+        machine
+    }
+
+    #[test]
+    fn a_stolen_read_after_an_eviction() {
+        for (asker, holder) in pairs() {
+            let mut machine = both_modified(asker, holder);
+            let given = [vec![order(asker, Copyback, 18, false)], retried(asker, Read, holder)].concat();
+            assert_eq!(machine.call(load(asker as u32, 72)), Ok(Reply { value: 9, orders: given }));
+            assert_eq!(valid(&machine), [(asker.min(holder), 1, 2), (asker.max(holder), 1, 2)]);
+            assert_eq!((machine.memory[2], &machine.memory[18][8..12]), (block_2([9, 0x6666_6666]), &[0, 0, 0, 1][..]));
+        }
+    }
+
+    #[test]
+    fn a_stolen_modified_read_after_an_eviction() {
+        for (asker, holder) in pairs() {
+            let mut machine = both_modified(asker, holder);
+            let given = [vec![order(asker, Copyback, 18, false)], retried(asker, ModifiedRead, holder)].concat();
+            assert_eq!(orders(&mut machine, store(asker as u32, 76, 5)), given);
+            assert_eq!(valid(&machine), [(asker, 2, 2)]);
+            assert_eq!(machine.units[asker].copies[2], block_2([9, 5]));
+            assert_eq!((machine.memory[2], &machine.memory[18][8..12]), (block_2([9, 0x6666_6666]), &[0, 0, 0, 1][..]));
+        }
+    }
+
+    #[test]
+    fn a_stolen_read_of_a_write_through_unit() {
+        let mut machine = stealing(2);
+        machine.call(store(3, 72, 9)).unwrap();
+        machine.call(load(1, 584)).unwrap();
+        assert_eq!(machine.call(load(1, 72)), Ok(Reply { value: 9, orders: retried(1, Read, 3) }));
+        assert_eq!(valid(&machine), [(1, 1, 2), (3, 1, 2)]);
+        assert_eq!(orders(&mut machine, load(1, 72)), []);
+    }
+
+    #[test]
+    fn a_memory_write_is_given_again_with_steal_on() {
+        let mut machine = stealing(2);
+        machine.call(store(3, 72, 9)).unwrap();
+        let again = vec![order(1, MemoryWrite, 2, false)];
+        assert_eq!(orders(&mut machine, store(1, 76, 5)), [retried(1, MemoryWrite, 3), again.clone()].concat());
+        assert_eq!((valid(&machine), machine.memory[2]), (vec![], block_2([9, 5])));
+        assert_eq!(orders(&mut machine, store(1, 72, 8)), again);
+    }
+
+    #[test]
+    fn with_steal_off_a_retried_order_is_given_again() {
+        let mut machine = mixed(2);
+        machine.call(store(0, 72, 9)).unwrap();
+        assert_eq!(orders(&mut machine, load(3, 72)), [retried(3, Read, 0), vec![order(3, Read, 2, false)]].concat());
+        machine.call(store(0, 72, 10)).unwrap();
+        assert_eq!(orders(&mut machine, store(2, 72, 11)), [retried(2, ModifiedRead, 0), vec![order(2, ModifiedRead, 2, false)]].concat());
+        assert_eq!(orders(&mut machine, store(1, 72, 12)), [retried(1, MemoryWrite, 2), vec![order(1, MemoryWrite, 2, false)]].concat());
+    }
+
+    /// Where no order is retried, a list of calls gives the same with steal on and off.
+    #[test]
+    fn an_order_that_is_not_retried_is_given_once() {
+        let list = [
+            (load(0, 72), vec![order(0, Read, 2, false)]),
+            (load(3, 72), vec![order(3, Read, 2, false)]),
+            (load(3, 76), vec![]),
+            (store(3, 72, 7), vec![order(3, Invalidate, 2, false)]),
+            (store(3, 76, 8), vec![]),
+            (store(2, 96, 9), vec![order(2, ModifiedRead, 3, false)]),
+            (load(2, 608), vec![order(2, Copyback, 3, false), order(2, Read, 19, false)]),
+            (store(0, 608, 6), vec![order(0, ModifiedRead, 19, false)]),
+            (store(0, 96, 5), vec![order(0, Copyback, 19, false), order(0, ModifiedRead, 3, false)]),
+            (store(1, 608, 4), vec![order(1, MemoryWrite, 19, false)]),
+            (Call::Flush { unit: 0, block: 2 }, vec![]),
+            (Call::Flush { unit: 3, block: 2 }, vec![order(3, Copyback, 2, false)]),
+        ];
+        let mut machines = [mixed(2), stealing(2)];
+        for (call, given) in list {
+            assert_eq!(machines.each_mut().map(|machine| orders(machine, call)), [given.clone(), given], "{call:?}");
+        }
+        let [off, on] = machines;
+        assert_eq!(valid(&off), [(0, 2, 3)]);
+        assert_eq!(Machine { steal: false, ..on }, off);
+    }
+
+    #[test]
+    fn steal_by_its_number() {
+        assert_eq!([0, 1].map(steal_of), [Some(false), Some(true)]);
+        for number in [2, 3, 255, 256, 257, 1 << 31, u32::MAX] {
+            assert_eq!(steal_of(number), None, "{number}");
+        }
+        assert_eq!(mixed(5).directory()[SET_PLACE..], [5, 0]);
+        assert_eq!(stealing(5).directory()[SET_PLACE..], [5, 1]);
+    }
+
+    #[test]
+    fn steal_in_a_directory() {
+        let bytes = [0; STORE_BYTES];
+        let mut directory = [0; DIRECTORY_BYTES];
+        for (set, number) in [0, 15, 16].into_iter().flat_map(|set| (0..=255).map(move |number| (set, number))) {
+            directory[128..].copy_from_slice(&[set, number]);
+            let opened = Machine::open(&directory, &bytes, &bytes);
+            assert_eq!(opened.err(), (set > 15 || number > 1).then_some(2), "set {set}, steal {number}");
+            assert_eq!(Machine::open(&directory, &bytes[1..], &bytes), Err(1));
+        }
+        directory[128..].copy_from_slice(&[2, 1]);
+        let mut machine = Machine::open(&directory, &bytes, &bytes).unwrap();
+        assert_eq!(machine.call(load(4, 2)), Err(3));
+        assert_eq!(machine.call(load(0, 2)), Err(4));
+        for call in [store(0, 72, 9), load(2, 72), store(3, 72, 10), store(1, 72, 11), Call::Flush { unit: 0, block: 2 }] {
+            machine.call(call).unwrap();
+            assert_eq!(machine.directory()[128..], [2, 1], "{call:?}");
+        }
     }
 }

@@ -1,7 +1,9 @@
-//! Demand 3 on the second implementation alone, for every set of write-through boards: the machine accepts the calls that the plain memory accepts, each
-//! load answers its number, no block is EM in one unit and held by another, and the orders are at most the loads and three times the stores.
-use outside::machine::{kinds_of, Call, Command, Machine, Newest, Reply, BLOCKS, STORE_BYTES};
+//! Demand 3 on the second implementation alone, for every set of write-through boards, with steal on and off: the machine accepts the calls that the plain
+//! memory accepts, each load answers its number, no block is EM in one unit and held by another, and the orders are at most the loads and three times the
+//! stores, with steal on twice the stores.
+use outside::machine::{kinds_of, Call, Command, Machine, Newest, Order, Reply, BLOCKS, STORE_BYTES};
 use outside::random::Random;
+use std::collections::BTreeSet;
 
 /// Document 01's plain memory, and how many loads and stores it accepted.
 struct Plain {
@@ -30,8 +32,9 @@ impl Plain {
         }
     }
 
-    fn bill(&self) -> usize {
-        self.loads + 3 * self.stores
+    fn bill(&self, steal: bool) -> usize {
+        let each = if steal { 2 } else { 3 };
+        self.loads + each * self.stores
     }
 }
 
@@ -70,41 +73,71 @@ fn newest(machine: &Machine) -> Vec<u8> {
     (0..BLOCKS as u32).flat_map(bytes).copied().collect()
 }
 
-/// One list of calls after a cold start; gives how many memory writes were retried.
-fn list(seed: u64, set: u32) -> usize {
+/// The command of a call's retried order, if it has one. Behind it stands the holder's copyback, and then the order again, but for a read and a modified read
+/// with steal on.
+fn retried(orders: &[Order], steal: bool) -> Option<Command> {
+    let at = orders.iter().position(|order| order.retried)?;
+    let again = Order { retried: false, ..orders[at] };
+    let expected = if steal && again.command != Command::MemoryWrite { vec![] } else { vec![again] };
+    assert_eq!((orders[at + 1].command, orders[at + 1].block), (Command::Copyback, again.block));
+    assert_eq!(orders[at + 2..], expected);
+    Some(again.command)
+}
+
+/// One list of calls after a cold start; gives the numbers of the commands that were retried.
+fn list(seed: u64, set: u32, steal: bool) -> BTreeSet<u32> {
     let mut random = Random::new(seed);
     let memory: Vec<u8> = (0..STORE_BYTES).map(|_| random.byte()).collect();
-    let mut machine = Machine::cold(&memory, kinds_of(set).expect("a set below 16"));
+    let mut machine = Machine::cold(&memory, kinds_of(set).expect("a set below 16"), steal);
     let mut plain = Plain { bytes: memory, loads: 0, stores: 0 };
-    let (mut given, mut retried) = (0, 0);
+    let (mut given, mut commands) = (0, BTreeSet::new());
     for step in 0..1_000 {
         let call = random_call(&mut random);
         let reply = machine.call(call);
-        let context = format!("list {seed}, set {set}, step {step}, {call:?}");
+        let context = format!("list {seed}, set {set}, steal {steal}, step {step}, {call:?}");
         assert_eq!(reply.as_ref().ok().map(|reply| reply.value), plain.call(call), "{context}");
         let orders = reply.map_or(vec![], |Reply { orders, .. }| orders);
         given += orders.len();
-        retried += orders.iter().filter(|order| order.command == Command::MemoryWrite && order.retried).count();
-        assert!(given <= plain.bill(), "{context}: {given} orders");
+        commands.extend(retried(&orders, steal).map(|command| command as u32));
+        assert!(given <= plain.bill(steal), "{context}: {given} orders");
         assert!(exclusive(&machine.directory(), set), "{context}");
         assert_eq!(newest(&machine), plain.bytes, "{context}");
     }
-    retried
+    commands
 }
 
+/// A read is retried where there is a copyback board, a modified read where there are two, a memory write where there are boards of both kinds.
 #[test]
-fn mixed_machines() {
-    for set in 0..16 {
-        let retried: usize = (0..4).map(|n| list(7_000_000 + 16 * n + u64::from(set), set)).sum();
-        assert_eq!(retried > 0, set != 0 && set != 15, "memory writes are retried where there are boards of both kinds: set {set}");
+fn every_setting() {
+    for (set, steal) in (0..32).map(|n| (n / 2, n % 2 == 1)) {
+        let commands: BTreeSet<u32> = (0..4).flat_map(|n| list(7_000_000 + 16 * n + u64::from(set), set, steal)).collect();
+        let copyback = 4 - set.count_ones();
+        let rows = [(Command::Read, 1..=4), (Command::ModifiedRead, 2..=4), (Command::MemoryWrite, 1..=3)];
+        let expected = rows.into_iter().filter(|(_, counts)| counts.contains(&copyback)).map(|(command, _)| command as u32).collect();
+        assert_eq!(commands, expected, "set {set}, steal {steal}");
     }
 }
 
-/// P11 with a write-through unit's load: one load and one store, and the four orders that the bill allows.
+/// How many orders each call of a list gives after a cold start with a write-through board in unit 1, and the bill.
+fn counts(steal: bool, calls: &[Call]) -> (Vec<usize>, usize) {
+    let mut machine = Machine::cold(&[0; STORE_BYTES], kinds_of(2).expect("a set below 16"), steal);
+    let mut plain = Plain { bytes: vec![0; STORE_BYTES], loads: 0, stores: 0 };
+    let mut given = vec![];
+    for &call in calls {
+        plain.call(call);
+        given.push(machine.call(call).expect("accepted").orders.len());
+    }
+    (given, plain.bill(steal))
+}
+
+/// P11 with a write-through unit's load, and with steal on its store too: as many orders as the bill allows.
 #[test]
 fn the_bill_is_met() {
-    let mut machine = Machine::cold(&[0; STORE_BYTES], kinds_of(2).expect("a set below 16"));
-    let mut orders = |call| machine.call(call).expect("accepted").orders.len();
-    assert_eq!(orders(Call::Store { unit: 0, address: 72, value: 9 }), 1);
-    assert_eq!(orders(Call::Load { unit: 1, address: 72 }), 3);
+    let store = |unit, value| Call::Store { unit, address: 72, value };
+    let load = |unit| Call::Load { unit, address: 72 };
+    for unit in 1..4 {
+        assert_eq!(counts(false, &[store(0, 9), load(unit)]), (vec![1, 3], 4));
+        assert_eq!(counts(true, &[store(0, 9), load(unit)]), (vec![1, 2], 3));
+    }
+    assert_eq!(counts(true, &[store(0, 9), store(1, 12)]), (vec![1, 3], 4));
 }

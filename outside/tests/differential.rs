@@ -5,10 +5,10 @@ mod common;
 use common::{code_of, same, Counts};
 use outside::archive::{self, ANSWER_NUMBERS, RECORD_NUMBERS};
 use outside::drill::{drill, LONGEST_TAPE};
-use outside::machine::{kinds_of, Call, Machine, Newest, Reply, DIRECTORY_BYTES, SET_PLACE, STORE_BYTES};
+use outside::machine::{kinds_of, steal_of, Call, Machine, Newest, Reply, DIRECTORY_BYTES, SET_PLACE, STEAL_PLACE, STORE_BYTES};
 use outside::random::Random;
 use outside::tape::{self, Found, Record};
-use std::collections::BTreeSet;
+use std::collections::{BTreeMap, BTreeSet};
 
 const UNTOUCHED: u32 = 0xA5A5_A5A5;
 /// Bytes that are room for any record.
@@ -105,15 +105,19 @@ fn random_call(random: &mut Random, blocks: u32) -> Call {
     }
 }
 
+/// What a cold start chooses: the set of write-through units, and steal, 1 or 0.
+type Settings = (u32, u32);
+
 /// Both machines cold on random memory, the proved one on spaces with anything in them.
-fn cold_pair(random: &mut Random, write_through: u32) -> (Lent, Machine) {
+fn cold_pair(random: &mut Random, settings: Settings) -> (Lent, Machine) {
+    let (write_through, steal) = settings;
     let mut bytes = |size: usize| (0..size).map(|_| random.byte()).collect::<Vec<u8>>();
     let (memory, directory, cache) = (bytes(STORE_BYTES), bytes(DIRECTORY_BYTES), bytes(STORE_BYTES));
     let mut lent = Lent { directory, memory, cache, answer: vec![0; ANSWER_NUMBERS] };
-    let code = archive::cold_start(&lent.memory, &mut lent.cache, write_through, &mut lent.directory);
-    same("the cold start of a list", &write_through, code, 0);
-    let machine = Machine::cold(&lent.memory, kinds_of(write_through).expect("a set below 16"));
-    same("the directory after a cold start", &write_through, &lent.directory, &machine.directory());
+    let code = archive::cold_start(&lent.memory, &mut lent.cache, write_through, steal, &mut lent.directory);
+    same("the cold start of a list", &settings, code, 0);
+    let machine = Machine::cold(&lent.memory, kinds_of(write_through).expect("a set below 16"), steal_of(steal).expect("0 or 1"));
+    same("the directory after a cold start", &settings, &lent.directory, &machine.directory());
     (lent, machine)
 }
 
@@ -134,38 +138,54 @@ fn call_both(counts: &mut Counts, lent: &mut Lent, machine: &mut Machine, call: 
     reply
 }
 
-/// What a store was: whether by a write-through unit, and how many orders it gave.
-fn store_of(call: Call, reply: &Result<Reply, u32>, write_through: u32) -> Option<(bool, usize)> {
-    match (call, reply) {
-        (Call::Store { unit, .. }, Ok(reply)) => Some((write_through >> unit & 1 == 1, reply.orders.len())),
-        _ => None,
+/// How many orders accepted loads and stores gave: by steal, whether it was a store, and whether of a write-through unit.
+type OrderCounts = BTreeMap<(u32, bool, bool), BTreeSet<usize>>;
+
+fn count_orders(met: &mut OrderCounts, call: Call, reply: &Result<Reply, u32>, (write_through, steal): Settings) {
+    let (unit, store) = match call {
+        Call::Load { unit, .. } => (unit, false),
+        Call::Store { unit, .. } => (unit, true),
+        Call::Flush { .. } => return,
+    };
+    if let Ok(reply) = reply {
+        met.entry((steal, store, write_through >> unit & 1 == 1)).or_default().insert(reply.orders.len());
     }
 }
 
-/// A list of calls after a cold start with any boards, each call on what the last one left. Gives the set of write-through units.
-fn list_of_calls(counts: &mut Counts, seed: u64, length: u32, stores: &mut BTreeSet<(bool, usize)>) -> u32 {
+/// A list of calls after a cold start with any settings, each call on what the last one left. Gives the settings.
+fn list_of_calls(counts: &mut Counts, seed: u64, length: u32, met: &mut OrderCounts) -> Settings {
     let mut random = Random::new(seed);
-    let write_through = random.below(16);
-    let (mut lent, mut machine) = cold_pair(&mut random, write_through);
+    let settings = (random.below(16), random.below(2));
+    let (mut lent, mut machine) = cold_pair(&mut random, settings);
     let blocks = 1 + random.below(4);
     for step in 0..length {
         let call = random_call(&mut random, blocks);
         let block = if random.one_in(20) { random.next() } else { random.below(70) };
         let reply = call_both(counts, &mut lent, &mut machine, call, block, (seed, step));
-        stores.extend(store_of(call, &reply, write_through));
+        count_orders(met, call, &reply, settings);
     }
-    write_through
+    settings
 }
 
 fn lists_of_calls(counts: &mut Counts) {
-    let (mut sets, mut stores) = (BTreeSet::new(), BTreeSet::new());
+    let (mut settings, mut met) = (BTreeSet::new(), OrderCounts::new());
     for seed in 0..1204 {
         let length = if seed < 1200 { 200 } else { 25_000 };
-        sets.insert(list_of_calls(counts, seed, length, &mut stores));
+        settings.insert(list_of_calls(counts, seed, length, &mut met));
     }
-    same("the sets of write-through units", &"", sets, (0..16).collect());
-    let met = [(false, 0), (false, 1), (false, 2), (false, 3), (false, 4), (true, 1), (true, 3)];
-    same("the stores by kind of board and count of orders", &"", stores, met.into());
+    same("the settings", &"", settings, (0..32).map(|n| (n / 2, n % 2)).collect());
+    let expected: [((u32, bool, bool), &[usize]); 8] = [
+        ((0, false, false), &[0, 1, 2, 3, 4]),
+        ((0, false, true), &[0, 1, 3]),
+        ((0, true, false), &[0, 1, 2, 3, 4]),
+        ((0, true, true), &[1, 3]),
+        ((1, false, false), &[0, 1, 2, 3]),
+        ((1, false, true), &[0, 1, 2]),
+        ((1, true, false), &[0, 1, 2, 3]),
+        ((1, true, true), &[1, 3]),
+    ];
+    let expected = expected.into_iter().map(|(access, orders)| (access, orders.iter().copied().collect())).collect();
+    same("the counts of orders by steal, store and write-through unit", &"", met, expected);
 }
 
 /// A directory that keeps the rules, with many blocks in several units.
@@ -173,6 +193,7 @@ fn sound_directory(random: &mut Random) -> Vec<u8> {
     let mut bytes = vec![0; DIRECTORY_BYTES];
     let write_through = if random.one_in(3) { 0 } else { random.below(16) };
     bytes[SET_PLACE] = write_through as u8;
+    bytes[STEAL_PLACE] = random.below(2) as u8;
     for slot in 0..16u32 {
         let block = |random: &mut Random| (16 * random.below(4) + slot) as u8;
         let owner = random.below(4);
@@ -201,7 +222,7 @@ fn random_size(random: &mut Random, right: usize) -> usize {
 }
 
 /// A directory that mostly keeps the rules, else with some bytes that are anything, with an EM slot in any unit, with any set of write-through units, above
-/// 15 too, or of another size.
+/// 15 too, with any steal, above 1 too, or of another size.
 fn random_directory(random: &mut Random) -> Vec<u8> {
     let mut directory = sound_directory(random);
     for _ in 0..random.pick(&[0, 0, 0, 1, 1, 2, 8]) {
@@ -216,6 +237,8 @@ fn random_directory(random: &mut Random) -> Vec<u8> {
             let slot = random.below(64) as usize;
             directory[2 * slot..2 * slot + 2].copy_from_slice(&[2, (16 * random.below(4) + slot as u32 % 16) as u8]);
         }
+        7 => directory[STEAL_PLACE] = random.byte(),
+        8 | 9 => directory[STEAL_PLACE] = random.below(4) as u8,
         _ => {}
     }
     let size = random_size(random, DIRECTORY_BYTES);
@@ -223,25 +246,26 @@ fn random_directory(random: &mut Random) -> Vec<u8> {
     directory
 }
 
-/// What a directory of the right size has of the kinds: nothing but copyback boards, boards of both kinds, only write-through ones, an EM slot of a
-/// write-through unit, a unit above 3.
-fn kinds_in(directory: &[u8]) -> Option<&'static str> {
+/// What a directory of the right size has of the settings: nothing but copyback boards, boards of both kinds, only write-through ones, an EM slot of a
+/// write-through unit, a unit above 3; and steal, 2 for all above 1.
+fn settings_in(directory: &[u8]) -> Option<(&'static str, u8)> {
     let set = *directory.get(SET_PLACE).filter(|_| directory.len() == DIRECTORY_BYTES)?;
     let modified = (0..64).any(|n| directory[2 * n] == 2 && set >> (n / 16) & 1 == 1);
-    Some(match set {
+    let kinds = match set {
         16.. => "a unit above 3",
         _ if modified => "an EM slot of a write-through unit",
         0 => "copyback boards",
         15 => "write-through boards",
         _ => "boards of both kinds",
-    })
+    };
+    Some((kinds, directory[STEAL_PLACE].min(2)))
 }
 
-/// A single call, and a peek before it, on any directory and stores of any size. Gives what the directory has of the kinds, and the call's number.
-fn single_call(counts: &mut Counts, seed: u64) -> Option<(&'static str, u32)> {
+/// A single call, and a peek before it, on any directory and stores of any size. Gives what the directory has of the settings, and the call's number.
+fn single_call(counts: &mut Counts, seed: u64) -> Option<((&'static str, u8), u32)> {
     let mut random = Random::new(1_000_000 + seed);
     let directory = random_directory(&mut random);
-    let kinds = kinds_in(&directory);
+    let settings = settings_in(&directory);
     let mut store = || {
         let size = random_size(&mut random, STORE_BYTES);
         let (seed, step) = (random.byte(), random.byte() | 1);
@@ -272,16 +296,18 @@ fn single_call(counts: &mut Counts, seed: u64) -> Option<(&'static str, u32)> {
     };
     same("what a call leaves", &context, (lent.directory, lent.memory, lent.cache), left);
     counts.one(name(call), code);
-    kinds.map(|kinds| (kinds, code))
+    settings.map(|settings| (settings, code))
 }
 
 fn single_calls(counts: &mut Counts) {
-    let met: BTreeSet<(&str, u32)> = (0..120_000).filter_map(|seed| single_call(counts, seed)).collect();
-    let codes = |kinds: &str| met.iter().filter(|(what, _)| *what == kinds).map(|(_, code)| *code).collect::<Vec<u32>>();
+    let met: BTreeSet<((&str, u8), u32)> = (0..120_000).filter_map(|seed| single_call(counts, seed)).collect();
+    let codes = |settings: (&str, u8)| met.iter().filter(|(what, _)| *what == settings).map(|(_, code)| *code).collect::<Vec<u32>>();
     let (any, broken): (&[u32], &[u32]) = (&[0, 1, 2, 3, 4, 9], &[1, 2, 9]);
     let sound = [("copyback boards", any), ("boards of both kinds", any), ("write-through boards", any)];
     for (kinds, numbers) in sound.into_iter().chain([("an EM slot of a write-through unit", broken), ("a unit above 3", broken)]) {
-        same("the numbers of refusal by the kinds in the directory", &kinds, codes(kinds), numbers.to_vec());
+        for (steal, numbers) in [(0, numbers), (1, numbers), (2, broken)] {
+            same("the numbers of refusal by the settings in the directory", &(kinds, steal), codes((kinds, steal)), numbers.to_vec());
+        }
     }
 }
 
@@ -294,34 +320,44 @@ fn random_set(random: &mut Random) -> u32 {
     }
 }
 
-/// Cold starts on stores and directory spaces of any size, with any set of write-through units.
-fn cold_starts(counts: &mut Counts) {
-    for seed in 0..20_000 {
-        let mut random = Random::new(2_000_000 + seed);
-        let memory = vec![random.byte(); random_size(&mut random, STORE_BYTES)];
-        let mut cache = vec![random.byte(); random_size(&mut random, STORE_BYTES)];
-        let mut directory = vec![random.byte(); random_size(&mut random, DIRECTORY_BYTES)];
-        let write_through = random_set(&mut random);
-        let context = (seed, memory.len(), cache.len(), directory.len(), write_through);
-        let (mut cache_after, mut directory_after) = (cache.clone(), directory.clone());
-        let expected = if directory.len() < DIRECTORY_BYTES {
-            tape::NO_ROOM
-        } else if write_through > 15 {
-            3
-        } else {
-            directory_after[..DIRECTORY_BYTES].fill(0);
-            directory_after[SET_PLACE] = write_through as u8;
-            if memory.len() == STORE_BYTES && cache.len() == STORE_BYTES {
-                cache_after.fill(0);
-                0
-            } else {
-                1
-            }
-        };
-        let code = archive::cold_start(&memory, &mut cache, write_through, &mut directory);
-        same("a cold start", &context, (code, cache, directory), (expected, cache_after, directory_after));
-        counts.one("cold starts", code);
+/// Steal, one in three above 1.
+fn random_steal(random: &mut Random) -> u32 {
+    match random.below(6) {
+        0 => random.pick(&[2, 3, 128, 254, 255, 256, 257, 1 << 16, (1 << 16) + 1, 1 << 31, u32::MAX - 1, u32::MAX]),
+        1 => random.next(),
+        _ => random.below(2),
     }
+}
+
+/// A cold start on stores and a directory space of any size, with any set of write-through units and any steal. Gives which of its four tests fail.
+fn cold_start(counts: &mut Counts, seed: u64) -> [bool; 4] {
+    let mut random = Random::new(2_000_000 + seed);
+    let memory = vec![random.byte(); random_size(&mut random, STORE_BYTES)];
+    let mut cache = vec![random.byte(); random_size(&mut random, STORE_BYTES)];
+    let mut directory = vec![random.byte(); random_size(&mut random, DIRECTORY_BYTES)];
+    let (write_through, steal) = (random_set(&mut random), random_steal(&mut random));
+    let context = (seed, memory.len(), cache.len(), directory.len(), write_through, steal);
+    let wrong_size = memory.len() != STORE_BYTES || cache.len() != STORE_BYTES;
+    let tests = [(tape::NO_ROOM, directory.len() < DIRECTORY_BYTES), (3, write_through > 15), (tape::FIELD_RANGE, steal > 1), (1, wrong_size)];
+    let expected = tests.into_iter().find(|(_, fails)| *fails).map_or(0, |(number, _)| number);
+    let (mut cache_after, mut directory_after) = (cache.clone(), directory.clone());
+    if expected <= 1 {
+        directory_after[..DIRECTORY_BYTES].fill(0);
+        directory_after[SET_PLACE] = write_through as u8;
+        directory_after[STEAL_PLACE] = steal as u8;
+    }
+    if expected == 0 {
+        cache_after.fill(0);
+    }
+    let code = archive::cold_start(&memory, &mut cache, write_through, steal, &mut directory);
+    same("a cold start", &context, (code, cache, directory), (expected, cache_after, directory_after));
+    counts.one("cold starts", code);
+    tests.map(|(_, fails)| fails)
+}
+
+fn cold_starts(counts: &mut Counts) {
+    let met: BTreeSet<[bool; 4]> = (0..20_000).map(|seed| cold_start(counts, seed)).collect();
+    same("how many of the 16 ways in which tests of a cold start can fail together", &"", met.len(), 16);
 }
 
 /// A number near 0, 2^7, 2^14 .. 2^63, 2^32 or 2^64.
@@ -661,7 +697,7 @@ fn main() {
     borders(&mut at_borders);
     let calls: u64 = ["loads", "stores", "flushes"].iter().map(|what| counts.compared[what]).sum();
     let access: &[u32] = &[0, 1, 2, 3, 4, 9];
-    counts.expect(&[("cold starts", &[0, 1, 3, 9]), ("loads", access), ("stores", access), ("flushes", access), ("peeks", &[0, 1, 2, 4])]);
+    counts.expect(&[("cold starts", &[0, 1, 3, 8, 9]), ("loads", access), ("stores", access), ("flushes", access), ("peeks", &[0, 1, 2, 4])]);
     counts.expect(&[("records read", &[0, 5, 6, 7, 8, 9]), ("records written", &[0, 7, 8, 9]), ("drills", &[0, 9])]);
     counts.expect(&[("sizes of records", &[0, 7, 8]), ("ends of a drill's text", &[0, 5, 6, 7, 8, 9])]);
     at_borders.expect(&[("records read", &[0, 5, 6, 7, 8]), ("sizes of records", &[0, 7, 8]), ("records written", &[0, 7, 8, 9])]);

@@ -1,4 +1,4 @@
--- A set of units and the boards that it spells.
+-- A set of units with steal, and the settings that they spell.
 use mathlib.Core.Path.{_≡_, refl, sym, ap, _∙_}
 use mathlib.Core.Bool.{Bool, true, false}
 use mathlib.Core.List.{List, [], _∷_}
@@ -16,38 +16,38 @@ use Rattle.coherence.specs.Settings.{isThrough, through}
 use Rattle.boards.specs.Boards.{boardOf, settingsOf, weighed, setOf, Examples, Sets}
 
 -- ---- settings, and back
-boards-back : (x y z w : Kind)
-    → let g : Settings = record { boards = record { kind = x } ∷ record { kind = y } ∷ record { kind = z } ∷ record { kind = w } ∷ [] } in
-    settingsOf (setOf g) ≡ g
+boards-back : (t : Bool) (x y z w : Kind)
+    → let g : Settings = record { boards = record { kind = x } ∷ record { kind = y } ∷ record { kind = z } ∷ record { kind = w } ∷ []; steal = t } in
+    settingsOf (setOf g) t ≡ g
 unfolding settingsOf setOf weighed boardOf contains bitAt through isThrough
-boards-back Copyback Copyback Copyback Copyback = refl
-boards-back Copyback Copyback Copyback WriteThrough = refl
-boards-back Copyback Copyback WriteThrough Copyback = refl
-boards-back Copyback Copyback WriteThrough WriteThrough = refl
-boards-back Copyback WriteThrough Copyback Copyback = refl
-boards-back Copyback WriteThrough Copyback WriteThrough = refl
-boards-back Copyback WriteThrough WriteThrough Copyback = refl
-boards-back Copyback WriteThrough WriteThrough WriteThrough = refl
-boards-back WriteThrough Copyback Copyback Copyback = refl
-boards-back WriteThrough Copyback Copyback WriteThrough = refl
-boards-back WriteThrough Copyback WriteThrough Copyback = refl
-boards-back WriteThrough Copyback WriteThrough WriteThrough = refl
-boards-back WriteThrough WriteThrough Copyback Copyback = refl
-boards-back WriteThrough WriteThrough Copyback WriteThrough = refl
-boards-back WriteThrough WriteThrough WriteThrough Copyback = refl
-boards-back WriteThrough WriteThrough WriteThrough WriteThrough = refl
+boards-back t Copyback Copyback Copyback Copyback = refl
+boards-back t Copyback Copyback Copyback WriteThrough = refl
+boards-back t Copyback Copyback WriteThrough Copyback = refl
+boards-back t Copyback Copyback WriteThrough WriteThrough = refl
+boards-back t Copyback WriteThrough Copyback Copyback = refl
+boards-back t Copyback WriteThrough Copyback WriteThrough = refl
+boards-back t Copyback WriteThrough WriteThrough Copyback = refl
+boards-back t Copyback WriteThrough WriteThrough WriteThrough = refl
+boards-back t WriteThrough Copyback Copyback Copyback = refl
+boards-back t WriteThrough Copyback Copyback WriteThrough = refl
+boards-back t WriteThrough Copyback WriteThrough Copyback = refl
+boards-back t WriteThrough Copyback WriteThrough WriteThrough = refl
+boards-back t WriteThrough WriteThrough Copyback Copyback = refl
+boards-back t WriteThrough WriteThrough Copyback WriteThrough = refl
+boards-back t WriteThrough WriteThrough WriteThrough Copyback = refl
+boards-back t WriteThrough WriteThrough WriteThrough WriteThrough = refl
 
-back : (g : Settings) → length (g .boards) ≡ 4 → settingsOf (setOf g) ≡ g
+back : (g : Settings) → length (g .boards) ≡ 4 → settingsOf (setOf g) (g .steal) ≡ g
 back g e = go (g .boards) refl e
   where
-    go : (l : List Board) → g .boards ≡ l → length l ≡ 4 → settingsOf (setOf g) ≡ g
+    go : (l : List Board) → g .boards ≡ l → length l ≡ 4 → settingsOf (setOf g) (g .steal) ≡ g
     go [] q h = absurd (omega arith)
     go (a ∷ []) q h = absurd (omega arith)
     go (a ∷ b ∷ []) q h = absurd (omega arith)
     go (a ∷ b ∷ c ∷ []) q h = absurd (omega arith)
     go (a ∷ b ∷ c ∷ d ∷ []) q h =
-        let p : g ≡ record { boards = a ∷ b ∷ c ∷ d ∷ [] } = ap (λ (l : List Board). record { boards = l }) q in
-        ap (λ (f : Settings). settingsOf (setOf f)) p ∙ boards-back (a .kind) (b .kind) (c .kind) (d .kind) ∙ sym p
+        let p : g ≡ record { boards = a ∷ b ∷ c ∷ d ∷ []; steal = g .steal } = ap (λ (l : List Board). record { boards = l; steal = g .steal }) q in
+        ap (λ (f : Settings). settingsOf (setOf f) (g .steal)) p ∙ boards-back (g .steal) (a .kind) (b .kind) (c .kind) (d .kind) ∙ sym p
     go (a ∷ b ∷ c ∷ d ∷ x ∷ l) q h = absurd (omega arith)
 
 -- ---- a set, and back
@@ -56,10 +56,10 @@ unfolding isThrough boardOf
 is-through true = refl
 is-through false = refl
 
-through-each : (s : ℕ) → (through (settingsOf s) 0 ≡ contains s 0) × (through (settingsOf s) 1 ≡ contains s 1)
-    × (through (settingsOf s) 2 ≡ contains s 2) × (through (settingsOf s) 3 ≡ contains s 3)
+through-each : (s : ℕ) (t : Bool) → (through (settingsOf s t) 0 ≡ contains s 0) × (through (settingsOf s t) 1 ≡ contains s 1)
+    × (through (settingsOf s t) 2 ≡ contains s 2) × (through (settingsOf s t) 3 ≡ contains s 3)
 unfolding settingsOf through
-through-each s = (is-through (contains s 0), is-through (contains s 1), is-through (contains s 2), is-through (contains s 3))
+through-each s t = (is-through (contains s 0), is-through (contains s 1), is-through (contains s 2), is-through (contains s 3))
 
 weighed-bit : (s i w : ℕ) → weighed (contains s i) w ≡ w * bitAt i s
 unfolding weighed contains bitAt
@@ -76,18 +76,22 @@ sum-of-bits s h =
     let e₈ : s / 8 ≡ s / 2 / 2 / 2 = omega arith in
     rw (e₁, e₄, e₈) (omega arith)
 
-forth : (s : ℕ) → s ≤ 15 → setOf (settingsOf s) ≡ s
+set-forth : (s : ℕ) (t : Bool) → s ≤ 15 → setOf (settingsOf s t) ≡ s
 unfolding setOf bitAt
-forth s h =
-    let t = through-each s in
-    rw (t .0, t .1, t .2, t .3, weighed-bit s 0 1, weighed-bit s 1 2, weighed-bit s 2 4, weighed-bit s 3 8) (sum-of-bits s h)
+set-forth s t h =
+    let e = through-each s t in
+    rw (e .0, e .1, e .2, e .3, weighed-bit s 0 1, weighed-bit s 1 2, weighed-bit s 2 4, weighed-bit s 3 8) (sum-of-bits s h)
+
+steal-forth : (s : ℕ) (t : Bool) → settingsOf s t .steal ≡ t
+unfolding settingsOf
+steal-forth s t = refl
 
 pub examples : Examples
 unfolding settingsOf boardOf contains bitAt through isThrough
 examples = record { units = refl; one = refl }
 
 pub sets : Sets
-sets = record { back = back; forth = forth; through = through-each }
+sets = record { back = back; forth = λ s t h. (set-forth s t h, steal-forth s t); through = through-each }
 
 most : (t : Bool) (w : ℕ) → weighed t w ≤ w
 unfolding weighed

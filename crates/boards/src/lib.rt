@@ -1,4 +1,4 @@
-// The boards' kinds as one number: the set of the units that have a write-through board, unit 0 with weight 1, unit 3 with weight 8.
+// The settings as numbers: the set of the units that have a write-through board, unit 0 with weight 1, unit 3 with weight 8; and steal beside it.
 use coherence::Board;
 use coherence::Kind;
 use coherence::Settings;
@@ -21,9 +21,9 @@ fn board(through: bool) -> Board
     }
 }
 
-// The settings that a set spells. What stands above weight 8 is not looked at.
-pub fn settings_of(set: u8) -> Settings
-    ensures { λ r. ⌜ r ≡ settingsOf set ⌝ }
+// The settings with the boards that a set spells. What stands above weight 8 is not looked at.
+pub fn settings_of(set: u8, steal: bool) -> Settings
+    ensures { λ r. ⌜ r ≡ settingsOf set steal ⌝ }
 {
     let b0 = board(set % 2 == 1);
     let b1 = board(set / 2 % 2 == 1);
@@ -31,6 +31,7 @@ pub fn settings_of(set: u8) -> Settings
     let b3 = board(set / 8 % 2 == 1);
     Settings {
         boards: [b0, b1, b2, b3],
+        steal,
     }
 }
 
@@ -40,7 +41,7 @@ fn weight(through: bool, of: u8) -> u8
     if through { of } else { 0 }
 }
 
-// The set that spells the settings.
+// The set that spells the boards.
 pub fn set_of(settings: Settings) -> u8
     ensures { λ r. ⌜ r ≡ setOf settings ⌝ }
 {

@@ -1,12 +1,11 @@
 -- What a call through the C interface answers and leaves, put together from what the machine answers and what is handed over.
 use mathlib.Core.Path.{_≡_, refl, sym, ap, _∙_}
 use mathlib.Core.Bool.{Bool, true, false, cond}
-use mathlib.Core.List.{List, [], _∷_, _++_}
+use mathlib.Core.List.{List, _++_}
 use Prim.Native.Nat.{ℕ, _≤_, _<_}
 use native.Mathlib.Omega.{arith}
 use lib.Dec.{leb, eqb}
-use lib.ListN.{length, getD, drop}
-use lib.Seq.{drop-length, drop-cons}
+use lib.ListN.{length, drop}
 use borrow.Author.Tests.{le-leb, lt-leb, eqb-true, eq-eqb, ne-eqb}
 use Rattle.coherence.specs.declared.Call.{Call}
 use Rattle.coherence.specs.declared.Answer.{Answer}
@@ -19,12 +18,11 @@ use Rattle.coherence.specs.Calls.{refusal, after, answer, memoryAfter, cacheAft
 use Rattle.coherence.specs.Demand3.{Answered}
 use Rattle.coherence.proofs.Counts.{answers-orders}
 use Rattle.coherence.proofs.Shapes.{answer-settings}
-use Rattle.boards.specs.Boards.{setOf}
-use Rattle.layout.specs.Directory.{decoded, encoded, slotBytes, setIn, slotsPut}
+use Rattle.layout.specs.Directory.{directorySize, decoded, encoded, slotBytes, settingsBytes, slotsPut}
 use Rattle.layout.specs.Answer.{answerNumbers, answerPut}
 use Rattle.crossing.proofs.CappedLaws.{caps}
 use Rattle.capi_machine.specs.Call.{Narrows, returned, directoryLeft, memoryLeft, cacheLeft, answerLeft, RefusedLeaves}
-use Rattle.layout.proofs.Inverse.{inverse, length-encoded, set-kept}
+use Rattle.layout.proofs.Inverse.{inverse, length-encoded, settings-kept}
 
 pub narrows : Narrows
 unfolding isUnit isBlock
@@ -35,8 +33,8 @@ narrows =
       kept = caps 255 .keeps;
     }
 
--- bytes that the machine takes for a directory are 129
-pub sound-size : (d : List ℕ) → sound (decoded d) ≡ true → length d ≡ 129
+-- bytes that the machine takes for a directory are as many as one has
+pub sound-size : (d : List ℕ) → sound (decoded d) ≡ true → length d ≡ directorySize
 sound-size d t = ap length (sym (inverse .forth d t)) ∙ length-encoded (decoded d)
 
 second-passes : (a b : Bool) (x : ℕ) → cond a (cond b x 2) 1 ≡ 0 → b ≡ true
@@ -49,7 +47,7 @@ accepted-sound : (d : Directory) (m k : List ℕ) (u : ℕ) (good : Bool) → ca
 unfolding callRefusal firstRefusal sizeTest directoryTest
 accepted-sound d m k u good e = second-passes (sized m k) (sound d) _ e
 
-pub accepted-size : (d m k : List ℕ) (c : Call) → refusal (decoded d) m k c ≡ 0 → length d ≡ 129
+pub accepted-size : (d m k : List ℕ) (c : Call) → refusal (decoded d) m k c ≡ 0 → length d ≡ directorySize
 unfolding refusal
 accepted-size d m k c e = sound-size d (accepted-sound (decoded d) m k (unitOf c) (isTarget c) e)
 
@@ -77,18 +75,16 @@ refusal-of : (d m k : List ℕ) (c : Call) → answer (decoded d) m k c .refusal
 unfolding answer
 refusal-of d m k c = refl
 
--- an accepted answer has room, and the set that stands behind the slots is its settings'
-put-slots : (x : Directory) (d : List ℕ) → length d ≡ 129 → setOf (x .settings) ≡ setIn d → slotsPut x d ≡ encoded x
-unfolding slotsPut encoded setIn
-put-slots x d e h =
-    rw (le-leb 129 (length d) (omega arith))
-    (ap (λ (t : List ℕ). slotBytes 64 x ++ t) (drop-cons d 128 0 (omega arith) ∙ ap (λ (t : List ℕ). getD d 128 0 ∷ t) (ap (λ (n : ℕ). drop n d) (sym e) ∙ drop-length d))
-    ∙ ap (λ (n : ℕ). slotBytes 64 x ++ (n ∷ [])) (sym h))
+-- an accepted answer has room, and what stands behind the slots are its settings
+put-slots : (x : Directory) (d : List ℕ) → length d ≡ directorySize → drop 128 d ≡ settingsBytes (x .settings) → slotsPut x d ≡ encoded x
+unfolding slotsPut encoded
+put-slots x d e h = rw (le-leb directorySize (length d) (omega arith)) (ap (λ (t : List ℕ). slotBytes 64 x ++ t) h)
 
 -- the settings of an accepted answer are those that the bytes spell
-set-stays : (d m k : List ℕ) (c : Call) → refusal (decoded d) m k c ≡ 0 → setOf (answer (decoded d) m k c .directory .settings) ≡ setIn d
+settings-stay : (d m k : List ℕ) (c : Call) → refusal (decoded d) m k c ≡ 0 → drop 128 d ≡ settingsBytes (answer (decoded d) m k c .directory .settings)
 unfolding refusal
-set-stays d m k c e = ap setOf (answer-settings (decoded d) m k c) ∙ set-kept d (accepted-sound (decoded d) m k (unitOf c) (isTarget c) e)
+settings-stay d m k c e =
+    settings-kept d (accepted-sound (decoded d) m k (unitOf c) (isTarget c) e) ∙ ap settingsBytes (sym (answer-settings (decoded d) m k c))
 
 put-answer : (r : Answer) (a : List ℕ) → 18 ≤ length a → r .orders .count ≤ 4 → answerPut r a ≡ answerNumbers r ++ drop 18 a
 unfolding answerPut
@@ -109,16 +105,16 @@ handed-over d m k a c r code d′ m′ k′ a′ s h t = go (eqb (refusal (decod
     n : r .refusal ≡ refusal (decoded d) m k c
     n = ap (λ (x : Answer). x .refusal) (s .answers) ∙ refusal-of d m k c
 
-    set : refusal (decoded d) m k c ≡ 0 → setOf (r .directory .settings) ≡ setIn d
-    set e = ap (λ (x : Answer). setOf (x .directory .settings)) (s .answers) ∙ set-stays d m k c e
+    behind : refusal (decoded d) m k c ≡ 0 → drop 128 d ≡ settingsBytes (r .directory .settings)
+    behind e = settings-stay d m k c e ∙ ap (λ (x : Answer). settingsBytes (x .directory .settings)) (sym (s .answers))
 
     go : (b : Bool) → eqb (refusal (decoded d) m k c) 0 ≡ b → Left d m k a c code d′ m′ k′ a′
     go true q =
         let test : eqb (r .refusal) 0 ≡ true = ap (λ (x : ℕ). eqb x 0) n ∙ q in
-        let size : length d ≡ 129 = accepted-size d m k c (eqb-true _ 0 q) in
+        let size : length d ≡ directorySize = accepted-size d m k c (eqb-true _ 0 q) in
         record {
           code = rw l (t .0 ∙ n);
-          directory = rw (l, q) ((rw test at (t .1)) ∙ put-slots (r .directory) d size (set (eqb-true _ 0 q)) ∙ ap (λ (x : Answer). encoded (x .directory)) (s .answers));
+          directory = rw (l, q) ((rw test at (t .1)) ∙ put-slots (r .directory) d size (behind (eqb-true _ 0 q)) ∙ ap (λ (x : Answer). encoded (x .directory)) (s .answers));
           memory = rw (l, q) (s .memory);
           cache = rw (l, q) (s .cache);
           answer = rw (l, q) ((rw test at (t .2)) ∙ put-answer r a h (rw (s .answers) (answers-orders (decoded d) m k c .few)) ∙ ap (λ (x : Answer). answerNumbers x ++ drop 18 a) (s .answers));

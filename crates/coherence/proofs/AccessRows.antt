@@ -3,24 +3,24 @@ use mathlib.Core.Path.{refl}
 use Rattle.coherence.specs.Bytes.{blockAt, putBlock, wordAt, putWord}
 use Rattle.coherence.specs.Settings.{isThrough, through, drillSettings}
 use Rattle.coherence.specs.Slots.{place, slotAt, setSlot, holds, modified, ownerOf, allBelow, fits, alone, slotRule, kindRule, soundSlots, soundKinds, sound, coldDirectory}
-use Rattle.coherence.specs.Access.{ready, give, mark, writeBack, copyback, emptied, empty, yield, ask, fill, fetch, eachUnit, expel, claim, cachePlace, write, load, own, writeThrough, storeThrough, store, flush}
+use Rattle.coherence.specs.Access.{ready, give, mark, writeBack, copyback, emptied, empty, yield, reads, stolen, asked, ask, fill, fetch, eachUnit, expel, claim, cachePlace, write, load, own, writeThrough, storeThrough, store, flush}
 use Rattle.order.specs.Refusal.{firstRefusal}
 use Rattle.coherence.specs.Refusal.{sized, isUnit, isAddress, isBlock, sizeTest, directoryTest, unitTest, targetTest, callRefusal, startRefusal, peekRefusal}
 use Rattle.coherence.specs.Calls.{unitOf, isTarget, refusal, act, loaded, after, valueOf, packed, answer, memoryAfter, cacheAfter, startAnswer, cacheStarted}
 use Rattle.coherence.specs.Peek.{fromCache, newestBlock, newest, peeked, peekFromCache, peekOffset}
 use Rattle.coherence.specs.Demand3.{ordersIn}
 use Rattle.coherence.specs.Sentences.{left}
-use Rattle.coherence.specs.AccessRows.{slotTwoOf, slotTwo, mixedSettings, mixedTwo, sevens, caches, elevens, withSlot, withBlock, withBlockTwo, withWord, AccessRows}
+use Rattle.coherence.specs.AccessRows.{slotTwoOf, slotTwo, mixedSettings, mixedTwo, stealing, stealTwo, mixedStealTwo, sevens, caches, elevens, withSlot, withBlock, withBlockTwo, withBlocks, withWord, AccessRows}
 
 pub access-rows : AccessRows
 unfolding
     left blockAt putBlock wordAt putWord place slotAt setSlot holds modified ownerOf allBelow fits alone slotRule kindRule soundSlots soundKinds sound coldDirectory
-    ready give mark writeBack copyback emptied empty yield ask fill fetch eachUnit expel claim cachePlace write load own
+    ready give mark writeBack copyback emptied empty yield reads stolen asked ask fill fetch eachUnit expel claim cachePlace write load own
     writeThrough storeThrough store flush isThrough through drillSettings
     firstRefusal sized isUnit isAddress isBlock sizeTest directoryTest unitTest targetTest callRefusal startRefusal peekRefusal
     unitOf isTarget refusal act loaded after valueOf packed answer memoryAfter cacheAfter startAnswer cacheStarted ordersIn
     fromCache newestBlock newest peeked peekFromCache peekOffset
-    slotTwoOf slotTwo mixedSettings mixedTwo sevens caches elevens withSlot withBlock withBlockTwo withWord
+    slotTwoOf slotTwo mixedSettings mixedTwo stealing stealTwo mixedStealTwo sevens caches elevens withSlot withBlock withBlockTwo withBlocks withWord
 access-rows =
     record {
       rows =
@@ -51,6 +51,17 @@ access-rows =
             storeShared = record { accepts = refl; value = refl; leaves = refl };
             loadRetried = record { accepts = refl; value = refl; leaves = refl };
             broken = record { refused = refl; value = refl; leaves = refl };
+          };
+      stealRows =
+          record {
+            loadStolen = record { accepts = refl; value = refl; leaves = refl };
+            loadEvictsAndSteals = record { accepts = refl; value = refl; leaves = refl };
+            storeStolen = record { accepts = refl; value = refl; leaves = refl };
+            storeEvictsAndSteals = record { accepts = refl; value = refl; leaves = refl };
+            loadMissed = record { accepts = refl; value = refl; leaves = refl };
+            storeMissed = record { accepts = refl; value = refl; leaves = refl };
+            memoryWrite = record { accepts = refl; value = refl; leaves = refl };
+            loadThrough = record { accepts = refl; value = refl; leaves = refl };
           };
       peeks =
           record {

@@ -3,7 +3,7 @@
 use mathlib.Core.Path.{_≡_, refl, sym, ap, _∙_}
 use mathlib.Core.List.{List}
 use mathlib.Core.Bool.{Bool, true, false, cond, not, _&&_, false≢true}
-use mathlib.Core.Logic.{_⊎_, ⊎-elim}
+use mathlib.Core.Logic.{⊎-elim}
 use Prim.Native.Nat.{ℕ, _+_, _*_, _/_, _%_, _≤_, _<_}
 use native.Mathlib.Omega.{arith}
 use lib.ListN.{length}
@@ -17,14 +17,14 @@ use Rattle.coherence.specs.declared.Directory.{Directory}
 use Rattle.coherence.specs.Bytes.{blockAt, putBlock, wordAt, putWord}
 use Rattle.coherence.specs.Settings.{through}
 use Rattle.coherence.specs.Slots.{place, slotAt, holds, modified}
-use Rattle.coherence.specs.Access.{Run, give, mark, empty, eachUnit, ask, fill, fetch, expel, claim, cachePlace, write, load, own, writeThrough, storeThrough, store, flush}
+use Rattle.coherence.specs.Access.{Run, give, mark, empty, eachUnit, reads, ask, fill, fetch, expel, claim, cachePlace, write, load, own, writeThrough, storeThrough, store, flush}
 use Rattle.coherence.specs.Snapshot.{replaced}
 use Rattle.coherence.proofs.Cases.{true-or-false, eq-or-ne}
 use Rattle.coherence.proofs.ByteLaws.{length-block, length-putBlock, length-putWord, block-same, block-other, word-same, word-other, word-block, word-in-block, word-elsewhere}
 use Rattle.coherence.proofs.SlotLaws.{size, slot-same, modified-is, is-modified, holds-is, modified-holds, shared-holds, holds-shared, holds-modified, holds-one, holds-invalid, invalid≢modified, shared≢modified, modified-one, place-lt, place-mod, place-unit, place-ne}
-use Rattle.coherence.proofs.Weights.{weight, debt-set}
+use Rattle.coherence.proofs.Weights.{Enough, weight, debt-set}
 use Rattle.coherence.proofs.Invariant.{Beside, change}
-use Rattle.coherence.proofs.Actions.{Keeps, cost, Fewer, Good, good-none, held-place, give-keeps, give-cost, mark-cost, mark-same, mark-other, mark-keeps, drop-good, empty-good, each-good, ask-keeps}
+use Rattle.coherence.proofs.Actions.{Keeps, cost, Good, good-none, held-place, give-keeps, give-cost, mark-cost, mark-same, mark-other, mark-keeps, drop-good, empty-good, each-good, Asks, ask-keeps}
 
 -- ---- a block is fetched
 fill-cost : (e n b : ℕ) (w : Run) → n < size (w .directory) → cost e (fill n b w) ≤ cost e w
@@ -58,21 +58,29 @@ fill-keeps p n b w l k q f g i =
       slot-same (w .directory) n (Shared b) s,
     )
 
-pub fetch-keeps : (e : ℕ) → 2 ≤ e → (p : Beside) (u : ℕ) (k : Command) (b : ℕ) (w : Run) → u < 4 → b < 64 → Keeps p w
+pub fetch-keeps : (e : ℕ) (p : Beside) → Enough e (p .settings) → (u : ℕ) (k : Command) (b : ℕ) (w : Run) → reads k ≡ true → u < 4 → b < 64 → Keeps p w
     → Keeps p (fetch u k b w) × (cost e (fetch u k b w) ≤ cost e w + 1) × (slotAt (fetch u k b w .directory) (place u b) ≡ Shared b)
 unfolding fetch
-fetch-keeps e two p u k b w l m i =
+fetch-keeps e p enough u k b w r l m i =
     let n : ℕ = place u b in
     let h : n < 64 = place-lt u b l in
     let w₁ : Run = empty u n w in
     let w₂ : Run = ask u k b w₁ in
-    let g : Good e p w w₁ × (slotAt (w₁ .directory) n ≡ Invalid) = empty-good e (omega arith) p u n w h i in
-    let a : Keeps p w₂ × (cost e w₂ ≤ cost e w₁ + 1) × Fewer (w₁ .directory) (w₂ .directory) × ((j : ℕ) → slotAt (w₂ .directory) j ≡ Modified b → ⊥) =
-    ask-keeps e two p u k b w₁ (g .0 .keeps) in
+    let g : Good e p w w₁ × (slotAt (w₁ .directory) n ≡ Invalid) = empty-good e (enough .0) p u n w h i in
+    let a : Asks p b w₁ w₂ × (cost e w₂ ≤ cost e w₁ + cond (reads k) 1 (1 + e)) = ask-keeps e p enough u k b w₁ (g .0 .keeps) in
+    let c : cost e w₂ ≤ cost e w₁ + 1 = rw r at (a .1) in
     let f : Keeps p (fill n b w₂) × (slotAt (fill n b w₂ .directory) n ≡ Shared b) =
-    fill-keeps p n b w₂ h m (place-mod u b) (λ c z. invalid≢modified c (sym (g .1) ∙ a .2 .em n c z)) (a .3) (a .0) in
-    let s : n < size (w₂ .directory) = rw (a .0 .lawful .slots) h in
+    fill-keeps p n b w₂ h m (place-mod u b) (λ c z. invalid≢modified c (sym (g .1) ∙ a .0 .fewer .em n c z)) (a .0 .free) (a .0 .keeps) in
+    let s : n < size (w₂ .directory) = rw (a .0 .keeps .lawful .slots) h in
     (f .0, omega (arith, g .0 .cost, fill-cost e n b w₂ s), f .1)
+
+reads-read : reads Read ≡ true
+unfolding reads
+reads-read = refl
+
+reads-modified : reads ModifiedRead ≡ true
+unfolding reads
+reads-modified = refl
 
 -- ---- the other holders become I
 -- no unit has block b EM, and unit u's slot of it is x
@@ -284,10 +292,10 @@ writeThrough-keeps p u a v w h m none only i =
         word-other (w .cache) k n (a % 32) v (offset a h) (λ r. q (holds-one (slotAt (w .directory) k) c b (rw r at g) z))
 
 -- ---- the accesses
-pub load-keeps : (e : ℕ) → 2 ≤ e → (p : Beside) (u a : ℕ) (w : Run) → u < 4 → a % 4 ≡ 0 → a ≤ 2044 → Keeps p w
+pub load-keeps : (e : ℕ) (p : Beside) → Enough e (p .settings) → (u a : ℕ) (w : Run) → u < 4 → a % 4 ≡ 0 → a ≤ 2044 → Keeps p w
     → Keeps p (load u a w) × (cost e (load u a w) ≤ cost e w + 1) × (wordAt (load u a w .cache) (cachePlace u a) ≡ wordAt (p .plain) a)
 unfolding load
-load-keeps e two p u a w l h m i = go (holds (slotAt (w .directory) (place u (a / 32))) (a / 32)) refl
+load-keeps e p enough u a w l h m i = go (holds (slotAt (w .directory) (place u (a / 32))) (a / 32)) refl
   where
     f : Run
     f = fetch u Read (a / 32) w
@@ -297,14 +305,14 @@ load-keeps e two p u a w l h m i = go (holds (slotAt (w .directory) (place u (a 
     go true z = (i, omega arith, word-held p u a w h i z)
     go false z =
         let g : Keeps p f × (cost e f ≤ cost e w + 1) × (slotAt (f .directory) (place u (a / 32)) ≡ Shared (a / 32)) =
-        fetch-keeps e two p u Read (a / 32) w l (omega arith) i in
+        fetch-keeps e p enough u Read (a / 32) w reads-read l (omega arith) i in
         (g .0, g .1, word-held p u a f h (g .0) (shared-holds _ (a / 32) (g .2)))
 
-own-keeps : (e : ℕ) → 2 ≤ e → (p : Beside) (u b : ℕ) (w : Run) → u < 4 → b < 64 → through (p .settings) u ≡ false → Keeps p w
+own-keeps : (e : ℕ) (p : Beside) → Enough e (p .settings) → (u b : ℕ) (w : Run) → u < 4 → b < 64 → through (p .settings) u ≡ false → Keeps p w
     → Keeps (cond (modified (slotAt (w .directory) (place u b)) b) p (takeOver p b)) (own u b w)
     × (cost e (own u b w) ≤ cost e w + (1 + e)) × (slotAt (own u b w .directory) (place u b) ≡ Modified b)
 unfolding own give
-own-keeps e two p u b w l m o i = go (modified (slotAt (w .directory) n) b) (holds (slotAt (w .directory) n) b) refl refl
+own-keeps e p enough u b w l m o i = go (modified (slotAt (w .directory) n) b) (holds (slotAt (w .directory) n) b) refl refl
   where
     n : ℕ
     n = place u b
@@ -326,7 +334,7 @@ own-keeps e two p u b w l m o i = go (modified (slotAt (w .directory) n) b) (hol
         claim-keeps e p u b w₁ l o s (give-keeps p u Invalidate b false w i) in
         (g .0, omega (arith, g .1, give-cost e u Invalidate b false w), g .2)
     go false false y f =
-        let h : Keeps p w₂ × (cost e w₂ ≤ cost e w + 1) × (slotAt (w₂ .directory) n ≡ Shared b) = fetch-keeps e two p u ModifiedRead b w l m i in
+        let h : Keeps p w₂ × (cost e w₂ ≤ cost e w + 1) × (slotAt (w₂ .directory) n ≡ Shared b) = fetch-keeps e p enough u ModifiedRead b w reads-modified l m i in
         let g : Keeps (takeOver p b) (claim u b w₂) × (cost e (claim u b w₂) ≤ cost e w₂ + e) × (slotAt (claim u b w₂ .directory) n ≡ Modified b) =
         claim-keeps e p u b w₂ l o (h .2) (h .0) in
         (g .0, omega arith, g .2)
@@ -346,18 +354,17 @@ writeThrough-cost : (e u a v : ℕ) (w : Run) → cost e (writeThrough u a v w) 
 unfolding writeThrough cost
 writeThrough-cost e u a v w = refl
 
-storeThrough-keeps : (e : ℕ) → 2 ≤ e → (p : Beside) (u a v : ℕ) (w : Run) → a % 4 ≡ 0 → a ≤ 2044 → Keeps p w
+storeThrough-keeps : (e : ℕ) (p : Beside) → Enough e (p .settings) → (u a v : ℕ) (w : Run) → a % 4 ≡ 0 → a ≤ 2044 → Keeps p w
     → Keeps (written (takeOver p (a / 32)) a v) (storeThrough u a v w) × (cost e (storeThrough u a v w) ≤ cost e w + (1 + e))
-unfolding storeThrough
-storeThrough-keeps e two p u a v w h m i =
+unfolding storeThrough reads
+storeThrough-keeps e p enough u a v w h m i =
     let b : ℕ = a / 32 in
     let w₁ : Run = ask u MemoryWrite b w in
     let w₂ : Run = eachUnit (expel u b) w₁ in
-    let q : Keeps p w₁ × (cost e w₁ ≤ cost e w + 1) × Fewer (w .directory) (w₁ .directory) × ((n : ℕ) → slotAt (w₁ .directory) n ≡ Modified b → ⊥) =
-    ask-keeps e two p u MemoryWrite b w i in
+    let q : Asks p b w w₁ × (cost e w₁ ≤ cost e w + (1 + e)) = ask-keeps e p enough u MemoryWrite b w i in
     let x : Slot = slotAt (w₁ .directory) (place u b) in
     let r : Good e p w₁ w₂ × Clear u b x w₂ × ((n : ℕ) → (n ≡ place u b → ⊥) → holds (slotAt (w₂ .directory) n) b ≡ true → ⊥) =
-    expel-all e p u b x w₁ (q .0) (q .3, refl) in (
+    expel-all e p u b x w₁ (q .0 .keeps) (q .0 .free, refl) in (
       writeThrough-keeps (takeOver p b) u a v w₂ h m (r .1 .0) (r .2) (takeOver-keeps p b w₂ (r .1 .0) (r .0 .keeps)),
       omega (arith, writeThrough-cost e u a v w₂, r .0 .cost, q .1),
     )
@@ -366,10 +373,10 @@ storeThrough-keeps e two p u a v w h m i =
 unfoldable pub storing : Directory → ℕ → ℕ → Beside → Beside
 storing d u b p = cond (modified (slotAt d (place u b)) b) p (takeOver p b)
 
-pub store-keeps : (e : ℕ) → 2 ≤ e → (p : Beside) (u a v : ℕ) (w : Run) → u < 4 → a % 4 ≡ 0 → a ≤ 2044 → Keeps p w
+pub store-keeps : (e : ℕ) (p : Beside) → Enough e (p .settings) → (u a v : ℕ) (w : Run) → u < 4 → a % 4 ≡ 0 → a ≤ 2044 → Keeps p w
     → Keeps (written (storing (w .directory) u (a / 32) p) a v) (store u a v w) × (cost e (store u a v w) ≤ cost e w + (1 + e))
 unfolding store storing
-store-keeps e two p u a v w l h m i = go (through (w .directory .settings) u) refl
+store-keeps e p enough u a v w l h m i = go (through (w .directory .settings) u) refl
   where
     b : ℕ
     b = a / 32
@@ -386,21 +393,21 @@ store-keeps e two p u a v w l h m i = go (through (w .directory .settings) u) re
     go : (t : Bool) → through (w .directory .settings) u ≡ t → Keeps (written p′ a v) (cond t w₂ w₁) × (cost e (cond t w₂ w₁) ≤ cost e w + (1 + e))
     go true z =
         let f : modified (slotAt (w .directory) (place u b)) b ≡ false = through-not-em p u b w (rw (i .lawful .chosen) at z) i in
-        rw f (storeThrough-keeps e two p u a v w h m i)
+        rw f (storeThrough-keeps e p enough u a v w h m i)
     go false z =
-        let g = own-keeps e two p u b w l (omega arith) (rw (i .lawful .chosen) at z) i in
+        let g = own-keeps e p enough u b w l (omega arith) (rw (i .lawful .chosen) at z) i in
         (write-keeps p′ u a v (own u b w) h (g .2) (g .0), omega (arith, write-cost e u a v (own u b w), g .1))
 
-pub flush-keeps : (e : ℕ) → 2 ≤ e → (p : Beside) (u b : ℕ) (w : Run) → u < 4 → Keeps p w
+pub flush-keeps : (e : ℕ) (p : Beside) → Enough e (p .settings) → (u b : ℕ) (w : Run) → u < 4 → Keeps p w
     → Keeps p (flush u b w) × (cost e (flush u b w) ≤ cost e w)
 unfolding flush
-flush-keeps e two p u b w l i = go (holds (slotAt (w .directory) (place u b)) b)
+flush-keeps e p enough u b w l i = go (holds (slotAt (w .directory) (place u b)) b)
   where
     f : Run
     f = empty u (place u b) w
 
     go : (t : Bool) → Keeps p (cond t f w) × (cost e (cond t f w) ≤ cost e w)
     go true =
-        let g : Good e p w f × (slotAt (f .directory) (place u b) ≡ Invalid) = empty-good e (omega arith) p u (place u b) w (place-lt u b l) i in
+        let g : Good e p w f × (slotAt (f .directory) (place u b) ≡ Invalid) = empty-good e (enough .0) p u (place u b) w (place-lt u b l) i in
         (g .0 .keeps, g .0 .cost)
     go false = (i, omega arith)

@@ -1,9 +1,9 @@
 -- Each bus action keeps the invariant, and what it costs: an order costs 1, and a block that ceases to be EM gives back the weight e. A copyback
--- costs 1 - e, so emptying a slot costs nothing; an order for a block costs at most 1, retried or not, where e is at least 2.
+-- costs 1 - e, so emptying a slot costs nothing where e is at least 1; a read costs at most 1, retried or not, where e is enough for the settings.
 use mathlib.Core.Path.{_≡_, refl, sym, ap, _∙_}
 use mathlib.Core.List.{List}
-use mathlib.Core.Bool.{Bool, true, false, cond, false≢true}
-use mathlib.Core.Logic.{_⊎_, ⊎-elim}
+use mathlib.Core.Bool.{Bool, true, false, cond, _&&_, false≢true}
+use mathlib.Core.Logic.{⊎-elim}
 use Prim.Native.Nat.{ℕ, _+_, _*_, _/_, _%_, _≤_, _<_}
 use native.Mathlib.Omega.{arith}
 use lib.ListN.{length, length-append}
@@ -13,14 +13,15 @@ use Rattle.order.specs.declared.Command.{Command}
 use Rattle.order.specs.declared.Command.the-variants.{Copyback}
 use Rattle.coherence.specs.declared.Slot.{Slot}
 use Rattle.coherence.specs.declared.Slot.the-variants.{Invalid, Shared, Modified}
+use Rattle.coherence.specs.declared.Settings.{Settings}
 use Rattle.coherence.specs.declared.Directory.{Directory}
 use Rattle.coherence.specs.Bytes.{blockAt, putBlock}
 use Rattle.coherence.specs.Slots.{place, slotAt, holds, ownerOf}
-use Rattle.coherence.specs.Access.{Run, give, mark, writeBack, copyback, emptied, empty, eachUnit, yield, ask}
+use Rattle.coherence.specs.Access.{Run, give, mark, writeBack, copyback, emptied, empty, eachUnit, yield, reads, stolen, asked, ask}
 use Rattle.coherence.proofs.Cases.{eq-or-ne, four}
 use Rattle.coherence.proofs.ByteLaws.{length-block, length-putBlock, block-same, block-other}
 use Rattle.coherence.proofs.SlotLaws.{size, slot-same, slot-other, holds-invalid, modified-holds, holds-shared, invalid≢modified, shared≢modified, modified-one, place-of, owner-cases}
-use Rattle.coherence.proofs.Weights.{weight, debt, debt-set}
+use Rattle.coherence.proofs.Weights.{Enough, weight, debt, debt-set}
 use Rattle.coherence.proofs.Invariant.{Beside, Inv, Change, change}
 
 abbrev pub Keeps : Beside → Run → Type 0
@@ -35,6 +36,9 @@ pub record Fewer (d d′ : Directory) : Type 0 where
   pub em : (j b : ℕ) → slotAt d′ j ≡ Modified b → slotAt d j ≡ Modified b
   pub held : (j b : ℕ) → holds (slotAt d′ j) b ≡ true → holds (slotAt d j) b ≡ true
 
+fewer-none : (d : Directory) → Fewer d d
+fewer-none d = record { em = λ j b q. q; held = λ j b q. q }
+
 -- from w to w′ at no cost
 pub record Good (e : ℕ) (p : Beside) (w w′ : Run) : Type 0 where
   pub keeps : Keeps p w′
@@ -42,7 +46,7 @@ pub record Good (e : ℕ) (p : Beside) (w w′ : Run) : Type 0 where
   pub fewer : Fewer (w .directory) (w′ .directory)
 
 pub good-none : {e : ℕ} {p : Beside} {w : Run} → Keeps p w → Good e p w w
-good-none {e} {p} {w} i = record { keeps = i; cost = omega arith; fewer = record { em = λ j b q. q; held = λ j b q. q } }
+good-none {e} {p} {w} i = record { keeps = i; cost = omega arith; fewer = fewer-none (w .directory) }
 
 pub good-then : {e : ℕ} {p : Beside} {w w′ w″ : Run} → Good e p w w′ → Good e p w′ w″ → Good e p w w″
 good-then g h =
@@ -233,45 +237,95 @@ none-em p d m c b i h n z =
     h (n / 16) (r .0) (ap (slotAt d) (sym (r .1)) ∙ z)
 
 -- ---- a holder gives way, and an order is given
-yield-good : (e : ℕ) → 2 ≤ e → (p : Beside) (u : ℕ) (k : Command) (b : ℕ) (w : Run) → Keeps p w
-    → Good e p w (yield u k b (ownerOf (w .directory) b) w)
-    × ((n : ℕ) → slotAt (yield u k b (ownerOf (w .directory) b) w .directory) n ≡ Modified b → ⊥)
+-- from w to w′ block b is asked for: no unit has it EM then
+pub record Asks (p : Beside) (b : ℕ) (w w′ : Run) : Type 0 where
+  pub keeps : Keeps p w′
+  pub fewer : Fewer (w .directory) (w′ .directory)
+  pub free : (n : ℕ) → slotAt (w′ .directory) n ≡ Modified b → ⊥
+
+-- where unit v has block b EM, for two orders and one EM slot less
+yield-keeps : (e : ℕ) → 1 ≤ e → (p : Beside) (u : ℕ) (k : Command) (b : ℕ) (w : Run) (v : ℕ) → ownerOf (w .directory) b ≡ v → Keeps p w
+    → Asks p b w (yield u k b v w)
+    × (ltb v 4 ≡ true → cost e (yield u k b v w) + e ≡ cost e w + 2) × (ltb v 4 ≡ false → cost e (yield u k b v w) ≡ cost e w)
 unfolding yield give
-yield-good e two p u k b w i = ⊎-elim owned free (owner-cases (w .directory) b)
+yield-keeps e one p u k b w v x i = ⊎-elim owned free (rw x at (owner-cases (w .directory) b))
   where
-    v : ℕ
-    v = ownerOf (w .directory) b
-
-    Yields : Run → Type 0
-    Yields x = Good e p w x × ((n : ℕ) → slotAt (x .directory) n ≡ Modified b → ⊥)
-
     w₁ : Run
     w₁ = give u k b true w
 
     w₂ : Run
     w₂ = copyback v (place v b) b w₁
 
-    owned : (v < 4) × (slotAt (w .directory) (place v b) ≡ Modified b) → Yields (cond (ltb v 4) w₂ w)
+    Yields : Bool → Type 0
+    Yields t =
+        Asks p b w (cond t w₂ w) × (t ≡ true → cost e (cond t w₂ w) + e ≡ cost e w + 2) × (t ≡ false → cost e (cond t w₂ w) ≡ cost e w)
+
+    owned : (v < 4) × (slotAt (w .directory) (place v b) ≡ Modified b) → Yields (ltb v 4)
     owned h =
         let g : Good e p w₁ w₂ × (cost e w₂ + e ≡ cost e w₁ + 1) × (slotAt (w₂ .directory) (place v b) ≡ Shared b) =
-        copyback-good e (omega arith) p v (place v b) b w₁ (h .1) (give-keeps p u k b true w i) in
+        copyback-good e one p v (place v b) b w₁ (h .1) (give-keeps p u k b true w i) in
         let c : cost e w₁ ≡ cost e w + 1 = give-cost e u k b true w in
         rw (lt-ltb v 4 (h .0)) (
-          record { keeps = g .0 .keeps; cost = omega arith; fewer = g .0 .fewer },
-          λ n z.
-              let q : n ≡ place v b = i .lawful .lone (place v b) n b (h .1) (modified-holds _ b (g .0 .fewer .em n b z)) in
-              shared≢modified b b (sym (g .2) ∙ ap (slotAt (w₂ .directory)) (sym q) ∙ z),
+          record {
+            keeps = g .0 .keeps;
+            fewer = g .0 .fewer;
+            free = λ n z.
+                let q : n ≡ place v b = i .lawful .lone (place v b) n b (h .1) (modified-holds _ b (g .0 .fewer .em n b z)) in
+                shared≢modified b b (sym (g .2) ∙ ap (slotAt (w₂ .directory)) (sym q) ∙ z);
+          },
+          λ t. omega (arith, g .1),
+          λ t. absurd (false≢true (sym t)),
         )
 
-    free : (4 ≤ v) × ((x : ℕ) → x < 4 → slotAt (w .directory) (place x b) ≡ Modified b → ⊥) → Yields (cond (ltb v 4) w₂ w)
-    free h = rw (le-ltb v 4 (h .0)) (good-none i, none-em p (w .directory) (w .memory) (w .cache) b i (h .1))
+    free : (4 ≤ v) × ((y : ℕ) → y < 4 → slotAt (w .directory) (place y b) ≡ Modified b → ⊥) → Yields (ltb v 4)
+    free h =
+        rw (le-ltb v 4 (h .0)) (
+          record {
+            keeps = i;
+            fewer = fewer-none (w .directory);
+            free = none-em p (w .directory) (w .memory) (w .cache) b i (h .1);
+          },
+          λ t. absurd (false≢true t),
+          λ t. refl,
+        )
 
-pub ask-keeps : (e : ℕ) → 2 ≤ e → (p : Beside) (u : ℕ) (k : Command) (b : ℕ) (w : Run) → Keeps p w
-    → Keeps p (ask u k b w) × (cost e (ask u k b w) ≤ cost e w + 1) × Fewer (w .directory) (ask u k b w .directory)
-    × ((n : ℕ) → slotAt (ask u k b w .directory) n ≡ Modified b → ⊥)
-unfolding ask give
-ask-keeps e two p u k b w i =
-    let v : ℕ = ownerOf (w .directory) b in
-    let g : Good e p w (yield u k b v w) × ((n : ℕ) → slotAt (yield u k b v w .directory) n ≡ Modified b → ⊥) = yield-good e two p u k b w i in
-    let c : cost e (ask u k b w) ≡ cost e (yield u k b v w) + 1 = give-cost e u k b false (yield u k b v w) in
-    (g .0 .keeps, omega (arith, g .0 .cost), g .0 .fewer, g .1)
+-- a read costs 1, a memory write as much as a store
+pub ask-keeps : (e : ℕ) (p : Beside) → Enough e (p .settings) → (u : ℕ) (k : Command) (b : ℕ) (w : Run) → Keeps p w
+    → Asks p b w (ask u k b w) × (cost e (ask u k b w) ≤ cost e w + cond (reads k) 1 (1 + e))
+unfolding ask asked stolen give
+ask-keeps e p enough u k b w i =
+    go (w .directory .settings .steal) (reads k) (ltb v 4) refl (g .1, g .2)
+  where
+    v : ℕ
+    v = ownerOf (w .directory) b
+
+    y : Run
+    y = yield u k b v w
+
+    y₁ : Run
+    y₁ = give u k b false y
+
+    g : Asks p b w y × (ltb v 4 ≡ true → cost e y + e ≡ cost e w + 2) × (ltb v 4 ≡ false → cost e y ≡ cost e w)
+    g = yield-keeps e (enough .0) p u k b w v refl i
+
+    again : Asks p b w y₁
+    again = record { keeps = g .0 .keeps; fewer = g .0 .fewer; free = g .0 .free }
+
+    Costs : Bool → Type 0
+    Costs t = (t ≡ true → cost e y + e ≡ cost e w + 2) × (t ≡ false → cost e y ≡ cost e w)
+
+    paid : (r t : Bool) → (r ≡ true → t ≡ true → 2 ≤ e) → Costs t → cost e y₁ ≤ cost e w + cond r 1 (1 + e)
+    paid true true two f = omega (arith, give-cost e u k b false y, two refl refl, f .0 refl)
+    paid false true two f = omega (arith, give-cost e u k b false y, enough .0, f .0 refl)
+    paid true false two f = omega (arith, give-cost e u k b false y, f .1 refl)
+    paid false false two f = omega (arith, give-cost e u k b false y, f .1 refl)
+
+    off : w .directory .settings .steal ≡ false → 2 ≤ e
+    off z = enough .1 (sym (ap (λ (g : Settings). g .steal) (i .lawful .chosen)) ∙ z)
+
+    go : (s r t : Bool) → w .directory .settings .steal ≡ s → Costs t
+        → Asks p b w (cond (s && r && t) y y₁) × (cost e (cond (s && r && t) y y₁) ≤ cost e w + cond r 1 (1 + e))
+    go true true true z f = (g .0, omega (arith, enough .0, f .0 refl))
+    go true true false z f = (again, paid true false (λ q x. absurd (false≢true x)) f)
+    go true false t z f = (again, paid false t (λ q x. absurd (false≢true q)) f)
+    go false r t z f = (again, paid r t (λ q x. off z) f)

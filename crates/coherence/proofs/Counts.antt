@@ -14,7 +14,7 @@ use Rattle.order.specs.declared.Command.{Command}
 use Rattle.order.specs.declared.Command.the-variants.{Read, ModifiedRead, Invalidate, Copyback, MemoryWrite}
 use Rattle.coherence.specs.Settings.{through}
 use Rattle.coherence.specs.Slots.{place, slotAt, holds, modified, ownerOf}
-use Rattle.coherence.specs.Access.{Run, ready, give, mark, writeBack, copyback, emptied, empty, eachUnit, yield, ask, fill, fetch, expel, claim, write, load, own, writeThrough, storeThrough, store, flush}
+use Rattle.coherence.specs.Access.{Run, ready, give, mark, writeBack, copyback, emptied, empty, eachUnit, yield, stolen, asked, ask, fill, fetch, expel, claim, write, load, own, writeThrough, storeThrough, store, flush}
 use Rattle.coherence.specs.declared.Directory.{Directory}
 use Rattle.coherence.specs.declared.Call.{Call}
 use Rattle.coherence.specs.declared.Call.the-variants.{Load, Store, Flush}
@@ -51,9 +51,15 @@ yield-given u k b v w = go (ltb v 4)
     go false = omega arith
 
 pub ask-given : (u : ℕ) (k : Command) (b : ℕ) (w : Run) → given (ask u k b w) ≤ given w + 3
-unfolding ask
-ask-given u k b w =
-    omega (arith, give-given u k b false (yield u k b (ownerOf (w .directory) b) w), yield-given u k b (ownerOf (w .directory) b) w)
+unfolding ask asked
+ask-given u k b w = go (stolen (w .directory .settings) k (ownerOf (w .directory) b))
+  where
+    y : Run
+    y = yield u k b (ownerOf (w .directory) b) w
+
+    go : (t : Bool) → given (cond t y (give u k b false y)) ≤ given w + 3
+    go true = omega (arith, yield-given u k b (ownerOf (w .directory) b) w)
+    go false = omega (arith, give-given u k b false y, yield-given u k b (ownerOf (w .directory) b) w)
 
 pub fetch-given : (u : ℕ) (k : Command) (b : ℕ) (w : Run) → given (fetch u k b w) ≤ given w + 4
 unfolding fetch fill

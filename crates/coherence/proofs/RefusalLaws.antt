@@ -1,4 +1,4 @@
--- The order of the tests, spelled out, and what an accepted cold start knows.
+-- The order of the tests, spelled out, and what an accepted call or cold start knows.
 use mathlib.Core.Path.{_≡_, refl}
 use mathlib.Core.Bool.{Bool, true, false, cond}
 use mathlib.Core.List.{List}
@@ -27,6 +27,15 @@ pub peek-tests : (d : Directory) (m k : List ℕ) (b : ℕ)
     → peekRefusal d m k b ≡ cond (sized m k) (cond (sound d) (cond (isBlock b) 0 4) 2) 1
 unfolding peekRefusal firstRefusal sizeTest directoryTest targetTest
 peek-tests d m k b = refl
+
+-- no test refuses
+pub all-pass : (a b c d : Bool) → _≡_ {A = ℕ} (cond a (cond b (cond c (cond d 0 4) 3) 2) 1) 0
+    → (a ≡ true) × (b ≡ true) × (c ≡ true) × (d ≡ true)
+all-pass true true true true e = (refl, refl, refl, refl)
+all-pass true true true false e = absurd (omega arith)
+all-pass true true false d e = absurd (omega arith)
+all-pass true false c d e = absurd (omega arith)
+all-pass false b c d e = absurd (omega arith)
 
 -- ---- the sizes
 pub sized-say : (m k : List ℕ) → sized m k ≡ true → (length m ≡ 2048) × (length k ≡ 2048)

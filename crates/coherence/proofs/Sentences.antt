@@ -1,7 +1,7 @@
 -- The definitions of the accesses say the documents' sentences.
 use mathlib.Core.Path.{_≡_, refl, sym, ap, _∙_}
 use mathlib.Core.List.{List, [], _∷_, _++_}
-use mathlib.Core.Bool.{Bool, true, false, cond, not, _&&_, false≢true}
+use mathlib.Core.Bool.{Bool, true, false, cond, not, _&&_, and-true, and-false, false≢true}
 use mathlib.Core.Logic.{_⊎_, inl, inr, ⊎-elim}
 use Prim.Native.Nat.{ℕ, _+_, _*_, _/_, _%_, _≤_, _<_}
 use native.Mathlib.Omega.{arith}
@@ -13,38 +13,34 @@ use Rattle.order.specs.declared.Command.the-variants.{Read, ModifiedRead, Inval
 use Rattle.order.specs.declared.Order.{Order}
 use Rattle.coherence.specs.declared.Slot.{Slot}
 use Rattle.coherence.specs.declared.Slot.the-variants.{Invalid, Shared, Modified}
+use Rattle.coherence.specs.declared.Settings.{Settings}
 use Rattle.coherence.specs.declared.Directory.{Directory}
 use Rattle.coherence.specs.declared.Call.{Call}
 use Rattle.coherence.specs.declared.Call.the-variants.{Load, Store, Flush}
 use Rattle.coherence.specs.Bytes.{blockAt, putBlock, wordAt, putWord}
 use Rattle.coherence.specs.Settings.{through}
-use Rattle.coherence.specs.Slots.{place, slotAt, slotOf, holds, modified, ownerOf, sound, Kinds, coldDirectory}
-use Rattle.coherence.specs.Access.{Run, ready, give, mark, writeBack, copyback, emptied, empty, yield, ask, fill, fetch, eachUnit, expel, claim, cachePlace, write, load, own, writeThrough, storeThrough, store, flush}
+use Rattle.coherence.specs.Slots.{place, slotAt, setSlot, slotOf, holds, modified, ownerOf, sound, Kinds, coldDirectory}
+use Rattle.coherence.specs.Access.{Run, ready, give, mark, writeBack, copyback, emptied, empty, yield, reads, stolen, asked, ask, fill, fetch, eachUnit, expel, claim, cachePlace, write, load, own, writeThrough, storeThrough, store, flush}
 use Rattle.coherence.specs.Refusal.{sized, isUnit, isBlock, startRefusal, peekRefusal}
 use Rattle.coherence.specs.Calls.{unitOf, isTarget, refusal, act, loaded, after, valueOf, answer, memoryAfter, cacheAfter, startAnswer, cacheStarted}
 use Rattle.coherence.specs.Peek.{fromCache, newestBlock, newest, peeked, peekFromCache, peekOffset}
 use Rattle.coherence.specs.Sentences.{Accepted, left, by, NoneHasEM, NotEM, MissOrders, SlotsLoaded, SlotsStored, SlotsThrough, SlotsFlushed, Leaves, wordPlace, LoadMissed, StoreShared, StoreMissed, ThroughOrders, StoreThrough, FlushHeld, SentencesHold, PeeksHold, StartsHold}
 use Rattle.coherence.proofs.Cases.{eq-or-ne, four}
+use Rattle.coherence.proofs.ByteLaws.{length-block, length-putBlock, block-same}
 use Rattle.coherence.proofs.SlotLaws.{size, size-set, slot-same, slot-other, holds-invalid, modified-holds, shared-holds, holds-is, is-modified, invalid≢modified, shared≢modified, place-lt, place-ne, place-unit, owner-cases, slot-cold}
-use Rattle.coherence.proofs.Rules.{sound-exclusive, tests-rules}
-use Rattle.coherence.proofs.RefusalLaws.{call-tests, start-tests, peek-tests, sized-say, sized-true}
+use Rattle.coherence.proofs.Rules.{sound-placed, sound-exclusive, tests-rules}
+use Rattle.coherence.proofs.RefusalLaws.{call-tests, start-tests, peek-tests, all-pass, sized-say, sized-true}
 use Rattle.coherence.proofs.Counts.{orders-in}
 use Rattle.coherence.proofs.Shapes.{answer-settings}
 
 -- ---- an accepted call
-tests-say : (s t r g : Bool) → _≡_ {A = ℕ} (cond s (cond t (cond r (cond g 0 4) 3) 2) 1) 0 → (t ≡ true) × (r ≡ true)
-tests-say true true true g e = (refl, refl)
-tests-say true true false g e = absurd (omega arith)
-tests-say true false r g e = absurd (omega arith)
-tests-say false t r g e = absurd (omega arith)
-
-accepted-says : (d : Directory) (m k : List ℕ) (c : Call) → refusal d m k c ≡ 0 → (sound d ≡ true) × (unitOf c < 4)
+accepted-says : (d : Directory) (m k : List ℕ) (c : Call) → refusal d m k c ≡ 0 → (sound d ≡ true) × (unitOf c < 4) × (length m ≡ 2048) × (length k ≡ 2048)
 unfolding refusal isUnit
 accepted-says d m k c e =
-    let q : (sound d ≡ true) × (isUnit (unitOf c) ≡ true) =
-    tests-say (sized m k) (sound d) (isUnit (unitOf c)) (isTarget c) (rw (call-tests d m k (unitOf c) (isTarget c)) at e) in
-    let l : unitOf c ≤ 3 = leb-true (unitOf c) 3 (q .1) in
-    (q .0, omega arith)
+    let q = all-pass (sized m k) (sound d) (isUnit (unitOf c)) (isTarget c) (rw (call-tests d m k (unitOf c) (isTarget c)) at e) in
+    let l : unitOf c ≤ 3 = leb-true (unitOf c) 3 (q .2) in
+    let z : (length m ≡ 2048) × (length k ≡ 2048) = sized-say m k (q .0) in
+    (q .1, omega arith, z .0, z .1)
 
 acts : (d : Directory) (m k : List ℕ) (c : Call) → refusal d m k c ≡ 0 → after d m k c ≡ act c (ready d m k)
 unfolding after
@@ -61,6 +57,15 @@ module _ (u n : ℕ) (w : Run) where
   empty-cache = go (slotAt (w .directory) n)
     where
       go : (x : Slot) → emptied u n x w .cache ≡ w .cache
+      go Invalid = refl
+      go (Shared c) = refl
+      go (Modified c) = refl
+
+  empty-settings : empty u n w .directory .settings ≡ w .directory .settings
+  unfolding empty emptied copyback mark writeBack give setSlot
+  empty-settings = go (slotAt (w .directory) n)
+    where
+      go : (x : Slot) → emptied u n x w .directory .settings ≡ w .directory .settings
       go Invalid = refl
       go (Shared c) = refl
       go (Modified c) = refl
@@ -108,51 +113,77 @@ module _ (u n : ℕ) (w : Run) where
 
 -- ---- an order for a block
 ask-free : (u : ℕ) (x : Command) (b : ℕ) (w : Run) → NoneHasEM (w .directory) b → ask u x b w ≡ give u x b false w
-unfolding ask yield
+unfolding ask asked stolen yield
 ask-free u x b w h =
     ⊎-elim
     (λ q. absurd (h (ownerOf (w .directory) b) (q .0) (q .1)))
-    (λ q. rw (le-ltb (ownerOf (w .directory) b) 4 (q .0)) refl)
+    (λ q. rw (le-ltb (ownerOf (w .directory) b) 4 (q .0), and-false (w .directory .settings .steal && reads x)) refl)
     (owner-cases (w .directory) b)
 
-ask-held : (u : ℕ) (x : Command) (b : ℕ) (w : Run) (v : ℕ) → v < 4 → slotAt (w .directory) (place v b) ≡ Modified b
-    → ((o : ℕ) → o < 4 → slotAt (w .directory) (place o b) ≡ Modified b → o ≡ v)
-    → ask u x b w ≡ give u x b false (copyback v (place v b) b (give u x b true w))
-unfolding ask yield
-ask-held u x b w v l e h =
-    ⊎-elim
-    (λ q. rw (h (ownerOf (w .directory) b) (q .0) (q .1), lt-ltb v 4 l) refl)
-    (λ q. absurd (q .1 v l e))
-    (owner-cases (w .directory) b)
+-- the one unit that has block b EM
+owner-one : (d : Directory) (b v : ℕ) → v < 4 → slotAt d (place v b) ≡ Modified b → ((o : ℕ) → o < 4 → slotAt d (place o b) ≡ Modified b → o ≡ v)
+    → ownerOf d b ≡ v
+owner-one d b v l e h = ⊎-elim (λ q. h (ownerOf d b) (q .0) (q .1)) (λ q. absurd (q .1 v l e)) (owner-cases d b)
 
--- an order changes no byte of the caches, and no slot but the holder's
+owner-is : (d : Directory) (b v : ℕ) → sound d ≡ true → v < 4 → slotAt d (place v b) ≡ Modified b → ownerOf d b ≡ v
+owner-is d b v s g e =
+    owner-one d b v g e
+    (λ o h y.
+    sym (place-unit o b)
+    ∙ sound-exclusive d (place o b) (place v b) b s (place-lt o b h) (place-lt v b g) y (modified-holds _ b e)
+    ∙ place-unit v b)
+
+-- unit u's order is retried, and unit v copies block b back
+abbrev yielded : ℕ → Command → ℕ → ℕ → Run → Run
+yielded u x b v w = copyback v (place v b) b (give u x b true w)
+
+ask-held : (u : ℕ) (x : Command) (b : ℕ) (w : Run) (v : ℕ) → v < 4 → ownerOf (w .directory) b ≡ v
+    → ask u x b w ≡ cond (w .directory .settings .steal && reads x) (yielded u x b v w) (give u x b false (yielded u x b v w))
+unfolding ask asked stolen yield
+ask-held u x b w v l e = rw (e, lt-ltb v 4 l, and-true (w .directory .settings .steal && reads x)) refl
+
+-- whether or not it is given again, an order leaves the same but for the orders
+ask-leaves : (u : ℕ) (x : Command) (b : ℕ) (w : Run)
+    → let y : Run = yield u x b (ownerOf (w .directory) b) w in (ask u x b w .directory ≡ y .directory) × (ask u x b w .cache ≡ y .cache)
+unfolding ask asked give
+ask-leaves u x b w = go (stolen (w .directory .settings) x (ownerOf (w .directory) b))
+  where
+    y : Run
+    y = yield u x b (ownerOf (w .directory) b) w
+
+    go : (t : Bool) → (cond t y (give u x b false y) .directory ≡ y .directory) × (cond t y (give u x b false y) .cache ≡ y .cache)
+    go true = (refl, refl)
+    go false = (refl, refl)
+
+-- it changes no byte of the caches, and no slot but the holder's
 ask-size : (u : ℕ) (x : Command) (b : ℕ) (w : Run) → size (ask u x b w .directory) ≡ size (w .directory)
-unfolding ask yield copyback mark writeBack give
-ask-size u x b w = go (ltb o 4)
+unfolding yield copyback mark writeBack give
+ask-size u x b w = ap size (ask-leaves u x b w .0) ∙ go (ltb o 4)
   where
     o : ℕ
     o = ownerOf (w .directory) b
 
-    go : (t : Bool) → size (cond t (copyback o (place o b) b (give u x b true w)) w .directory) ≡ size (w .directory)
+    go : (t : Bool) → size (cond t (yielded u x b o w) w .directory) ≡ size (w .directory)
     go true = size-set _ _ _
     go false = refl
 
 ask-cache : (u : ℕ) (x : Command) (b : ℕ) (w : Run) → ask u x b w .cache ≡ w .cache
-unfolding ask yield copyback mark writeBack give
-ask-cache u x b w = go (ltb o 4)
+unfolding yield copyback mark writeBack give
+ask-cache u x b w = ask-leaves u x b w .1 ∙ go (ltb o 4)
   where
     o : ℕ
     o = ownerOf (w .directory) b
 
-    go : (t : Bool) → cond t (copyback o (place o b) b (give u x b true w)) w .cache ≡ w .cache
+    go : (t : Bool) → cond t (yielded u x b o w) w .cache ≡ w .cache
     go true = refl
     go false = refl
 
 ask-rest : (u : ℕ) (x : Command) (b : ℕ) (w : Run) (j : ℕ) → (slotAt (w .directory) j ≡ Modified b → ⊥)
     → slotAt (ask u x b w .directory) j ≡ slotAt (w .directory) j
-unfolding ask yield copyback mark writeBack give
+unfolding yield copyback mark writeBack give
 ask-rest u x b w j h =
-    ⊎-elim
+    ap (λ (d : Directory). slotAt d j) (ask-leaves u x b w .0)
+    ∙ ⊎-elim
     (λ q. rw (lt-ltb o 4 (q .0)) (slot-other (w .directory) (place o b) j (Shared b) (λ y. h (ap (slotAt (w .directory)) y ∙ q .1))))
     (λ q. rw (le-ltb o 4 (q .0)) refl)
     (owner-cases (w .directory) b)
@@ -161,7 +192,7 @@ ask-rest u x b w j h =
     o = ownerOf (w .directory) b
 
 -- ---- a block is fetched
-module _ (d : Directory) (m k : List ℕ) (u b : ℕ) (x : Command) (l : u < 4) (z : size d ≡ 64) (s : sound d ≡ true)
+module _ (d : Directory) (m k : List ℕ) (u b : ℕ) (x : Command) (r : reads x ≡ true) (l : u < 4) (z : size d ≡ 64) (s : sound d ≡ true)
     (f : holds (slotAt d (place u b)) b ≡ false) where
   abbrev w₁ : Run
   w₁ = empty u (place u b) (ready d m k)
@@ -195,14 +226,28 @@ module _ (d : Directory) (m k : List ℕ) (u b : ℕ) (x : Command) (l : u < 4) 
   asked-free : NoneHasEM d b → ask u x b w₁ ≡ give u x b false w₁
   asked-free h = ask-free u x b w₁ (λ v g e. h v g (before v e))
 
-  asked-held : (v : ℕ) → v < 4 → slotAt d (place v b) ≡ Modified b
-      → ask u x b w₁ ≡ give u x b false (copyback v (place v b) b (give u x b true w₁))
-  asked-held v g e =
-      ask-held u x b w₁ v g (other₁ (place v b) (away v e) ∙ e)
+  owner₁ : (v : ℕ) → v < 4 → slotAt d (place v b) ≡ Modified b → ownerOf (w₁ .directory) b ≡ v
+  owner₁ v g e =
+      owner-one (w₁ .directory) b v g (other₁ (place v b) (away v e) ∙ e)
       (λ o h y.
       sym (place-unit o b)
       ∙ sound-exclusive d (place o b) (place v b) b s (place-lt o b h) (place-lt v b g) (before o y) (modified-holds _ b e)
       ∙ place-unit v b)
+
+  -- it is stolen exactly with steal on
+  steal₁ : (w₁ .directory .settings .steal && reads x) ≡ d .settings .steal
+  unfolding ready
+  steal₁ = go (reads x) r ∙ ap (λ (g : Settings). g .steal) (empty-settings u (place u b) (ready d m k))
+    where
+      go : (t : Bool) → t ≡ true → (w₁ .directory .settings .steal && t) ≡ w₁ .directory .settings .steal
+      go true e = and-true (w₁ .directory .settings .steal)
+      go false e = absurd (false≢true e)
+
+  asked-held : (v : ℕ) → v < 4 → slotAt d (place v b) ≡ Modified b → (t : Bool) → d .settings .steal ≡ t
+      → ask u x b w₁ ≡ cond t (yielded u x b v w₁) (give u x b false (yielded u x b v w₁))
+  asked-held v g e t o =
+      ask-held u x b w₁ v g (owner₁ v g e)
+      ∙ ap (λ (t : Bool). cond t (yielded u x b v w₁) (give u x b false (yielded u x b v w₁))) (steal₁ ∙ o)
 
   cache₁ : w₁ .cache ≡ k
   unfolding ready
@@ -221,16 +266,41 @@ module _ (d : Directory) (m k : List ℕ) (u b : ℕ) (x : Command) (l : u < 4) 
   unfolding give
   free-then os n q h = rw (asked-free h) (ap (λ (o : List Order). o ++ (by u x b false ∷ [])) (q .0), q .1)
 
-  held-then : (os : List Order) (n : List ℕ) → (w₁ .orders ≡ os) × (w₁ .memory ≡ n) → (v : ℕ) → v < 4 → slotAt d (place v b) ≡ Modified b
-      → (ask u x b w₁ .orders ≡ ((os ++ (by u x b true ∷ [])) ++ (by v Copyback b false ∷ [])) ++ (by u x b false ∷ []))
-      × (ask u x b w₁ .memory ≡ putBlock n b (blockAt k (place v b)))
+  -- what memory has once the holder has copied back
+  held-memory : (v : ℕ) → v < 4 → slotAt d (place v b) ≡ Modified b → ask u x b w₁ .memory ≡ putBlock (w₁ .memory) b (blockAt k (place v b))
   unfolding give copyback mark writeBack
-  held-then os n q v g e =
-      rw (asked-held v g e) (
-        ap (λ (o : List Order). ((o ++ (by u x b true ∷ [])) ++ (by v Copyback b false ∷ [])) ++ (by u x b false ∷ [])) (q .0),
-        ap (λ (r : List ℕ). putBlock r b (blockAt (w₁ .cache) (place v b))) (q .1)
-            ∙ ap (λ (r : List ℕ). putBlock n b (blockAt r (place v b))) cache₁,
-      )
+  held-memory v g e =
+      ap (λ (w : Run). w .memory) (asked-held v g e (d .settings .steal) refl)
+      ∙ go (d .settings .steal)
+      ∙ ap (λ (c : List ℕ). putBlock (w₁ .memory) b (blockAt c (place v b))) cache₁
+    where
+      y : Run
+      y = yielded u x b v w₁
+
+      go : (t : Bool) → cond t y (give u x b false y) .memory ≡ putBlock (w₁ .memory) b (blockAt (w₁ .cache) (place v b))
+      go true = refl
+      go false = refl
+
+  -- orders os and memory n before
+  held-then : (os : List Order) (n : List ℕ) → (w₁ .orders ≡ os) × (w₁ .memory ≡ n) → (v : ℕ) → v < 4 → slotAt d (place v b) ≡ Modified b
+      → (t : Bool) → d .settings .steal ≡ t
+      → let ys : List Order = (os ++ (by u x b true ∷ [])) ++ (by v Copyback b false ∷ []) in
+      (ask u x b w₁ .orders ≡ cond t ys (ys ++ (by u x b false ∷ []))) × (ask u x b w₁ .memory ≡ putBlock n b (blockAt k (place v b)))
+  unfolding give copyback mark writeBack
+  held-then os n q v g e t o = (
+    ap (λ (w : Run). w .orders) (asked-held v g e t o) ∙ go t,
+    held-memory v g e ∙ ap (λ (c : List ℕ). putBlock c b (blockAt k (place v b))) (q .1),
+  )
+    where
+      y : Run
+      y = yielded u x b v w₁
+
+      ys : List Order
+      ys = (os ++ (by u x b true ∷ [])) ++ (by v Copyback b false ∷ [])
+
+      go : (t : Bool) → cond t y (give u x b false y) .orders ≡ cond t ys (ys ++ (by u x b false ∷ []))
+      go true = ap (λ (o : List Order). (o ++ (by u x b true ∷ [])) ++ (by v Copyback b false ∷ [])) (q .0)
+      go false = ap (λ (o : List Order). ((o ++ (by u x b true ∷ [])) ++ (by v Copyback b false ∷ [])) ++ (by u x b false ∷ [])) (q .0)
 
   fetch-orders : MissOrders d m k u b x (fetch u x b (ready d m k) .orders) (fetch u x b (ready d m k) .memory)
   unfolding fetch fill
@@ -238,13 +308,17 @@ module _ (d : Directory) (m k : List ℕ) (u b : ℕ) (x : Command) (l : u < 4) 
       record {
         alone = λ h g. free-then [] m (not₁ h) g;
         evicts = λ c e g. free-then _ _ (em₁ c e) g;
-        retried = λ h v g e. held-then [] m (not₁ h) v g e;
-        both = λ c y v g e. held-then _ _ (em₁ c y) v g e;
+        retried = λ o h v g e. held-then [] m (not₁ h) v g e false o;
+        both = λ o c y v g e. held-then _ _ (em₁ c y) v g e false o;
+        stolen = λ o h v g e. held-then [] m (not₁ h) v g e true o;
+        bothStolen = λ o c y v g e. held-then _ _ (em₁ c y) v g e true o;
       }
 
   held-slot : (v : ℕ) → v < 4 → slotAt d (place v b) ≡ Modified b → slotAt (ask u x b w₁ .directory) (place v b) ≡ Shared b
-  unfolding give copyback mark writeBack
-  held-slot v g e = rw (asked-held v g e) (slot-same (w₁ .directory) (place v b) (Shared b) (rw size₁ (place-lt v b g)))
+  unfolding yield give copyback mark writeBack
+  held-slot v g e =
+      ap (λ (d : Directory). slotAt d (place v b)) (ask-leaves u x b w₁ .0)
+      ∙ rw (owner₁ v g e, lt-ltb v 4 g) (slot-same (w₁ .directory) (place v b) (Shared b) (rw size₁ (place-lt v b g)))
 
   rest₁ : (n : ℕ) → (n ≡ place u b → ⊥) → (slotAt d n ≡ Modified b → ⊥) → slotAt (ask u x b w₁ .directory) n ≡ slotAt d n
   rest₁ n h g = ask-rest u x b w₁ n (λ y. g (sym (other₁ n h) ∙ y)) ∙ other₁ n h
@@ -265,6 +339,29 @@ module _ (d : Directory) (m k : List ℕ) (u b : ℕ) (x : Command) (l : u < 4) 
   fetch-cache : fetch u x b (ready d m k) .cache ≡ putBlock k (place u b) (blockAt (fetch u x b (ready d m k) .memory) b)
   unfolding fetch fill
   fetch-cache = ap (λ (r : List ℕ). putBlock r (place u b) (blockAt (ask u x b w₁ .memory) b)) (ask-cache u x b w₁ ∙ cache₁)
+
+  -- the bytes that the slot takes are the holder's
+  module _ (p : length m ≡ 2048) (q : length k ≡ 2048) where
+    memory₁ : length (w₁ .memory) ≡ 2048
+    unfolding ready
+    memory₁ = go (slotAt d (place u b)) refl
+      where
+        go : (x : Slot) → slotAt d (place u b) ≡ x → length (w₁ .memory) ≡ 2048
+        go Invalid e = ap length (not₁ (λ c y. invalid≢modified c (sym e ∙ y)) .1) ∙ p
+        go (Shared a) e = ap length (not₁ (λ c y. shared≢modified a c (sym e ∙ y)) .1) ∙ p
+        go (Modified c) e =
+            let n : place u b < 64 = place-lt u b l in
+            let h : c ≤ 63 = sound-placed d (place u b) c s n (modified-holds _ c e) .0 in
+            ap length (em₁ c e .1) ∙ length-putBlock m c (blockAt k (place u b)) (omega arith) (length-block k (place u b) (omega arith)) ∙ p
+
+    fetch-taken : (v : ℕ) → v < 4 → slotAt d (place v b) ≡ Modified b → fetch u x b (ready d m k) .cache ≡ putBlock k (place u b) (blockAt k (place v b))
+    unfolding fetch fill
+    fetch-taken v g e =
+        let n : place v b < 64 = place-lt v b g in
+        let h : b ≤ 63 = sound-placed d (place v b) b s n (modified-holds _ b e) .0 in
+        fetch-cache
+        ∙ ap (λ (c : List ℕ). putBlock k (place u b) (blockAt c b)) (held-memory v g e)
+        ∙ ap (putBlock k (place u b)) (block-same (w₁ .memory) b (blockAt k (place v b)) (omega (arith, memory₁)) (length-block k (place v b) (omega arith)))
 
 -- ---- a block is claimed
 -- each slot is as it was, or is invalid and held block b
@@ -426,14 +523,15 @@ module _ (d : Directory) (m k : List ℕ) (z : size d ≡ 64) where
 
   load-missed : (u a : ℕ) → refusal d m k (Load u a) ≡ 0 → holds (slotAt d (place u (a / 32))) (a / 32) ≡ false
       → LoadMissed d m k u (a / 32) (after d m k (Load u a))
-  unfolding unitOf
+  unfolding unitOf reads
   load-missed u a r e =
-      let q : (sound d ≡ true) × (u < 4) = accepted-says d m k (Load u a) r in
+      let q : (sound d ≡ true) × (u < 4) × (length m ≡ 2048) × (length k ≡ 2048) = accepted-says d m k (Load u a) r in
       rw (acts d m k (Load u a) r, misses u a e)
       (record {
-        orders = fetch-orders d m k u (a / 32) Read (q .1) z (q .0) e;
-        slots = fetch-slots d m k u (a / 32) Read (q .1) z (q .0) e;
-        cache = fetch-cache d m k u (a / 32) Read (q .1) z (q .0) e;
+        orders = fetch-orders d m k u (a / 32) Read refl (q .1) z (q .0) e;
+        slots = fetch-slots d m k u (a / 32) Read refl (q .1) z (q .0) e;
+        cache = fetch-cache d m k u (a / 32) Read refl (q .1) z (q .0) e;
+        taken = fetch-taken d m k u (a / 32) Read refl (q .1) z (q .0) e (q .2) (q .3);
       })
 
   store-modified : (u a v : ℕ) → refusal d m k (Store u a v) ≡ 0 → through (d .settings) u ≡ false → slotAt d (place u (a / 32)) ≡ Modified (a / 32)
@@ -467,7 +565,7 @@ module _ (d : Directory) (m k : List ℕ) (z : size d ≡ 64) where
   store-shared u a v r y e =
       let b : ℕ = a / 32 in
       let w : Run = give u Invalidate b false (ready d m k) in
-      let q : (sound d ≡ true) × (u < 4) = accepted-says d m k (Store u a v) r in
+      let q : (sound d ≡ true) × (u < 4) × (length m ≡ 2048) × (length k ≡ 2048) = accepted-says d m k (Store u a v) r in
       let c : (claim u b w .orders ≡ w .orders) × (claim u b w .memory ≡ w .memory) × (claim u b w .cache ≡ w .cache) = claim-does u b w z in
       rw (acts d m k (Store u a v) r, shares u a v y e)
       (record {
@@ -484,15 +582,15 @@ module _ (d : Directory) (m k : List ℕ) (z : size d ≡ 64) where
 
   store-missed : (u a v : ℕ) → refusal d m k (Store u a v) ≡ 0 → through (d .settings) u ≡ false → holds (slotAt d (place u (a / 32))) (a / 32) ≡ false
       → StoreMissed d m k u a v (after d m k (Store u a v))
-  unfolding unitOf write
+  unfolding unitOf write reads
   store-missed u a v r i e =
       let b : ℕ = a / 32 in
       let w : Run = fetch u ModifiedRead b (ready d m k) in
-      let q : (sound d ≡ true) × (u < 4) = accepted-says d m k (Store u a v) r in
-      let y : size (w .directory) ≡ 64 = fetch-size d m k u b ModifiedRead (q .1) z (q .0) e in
-      let s : SlotsLoaded d u b (w .directory) = fetch-slots d m k u b ModifiedRead (q .1) z (q .0) e in
-      let o : MissOrders d m k u b ModifiedRead (w .orders) (w .memory) = fetch-orders d m k u b ModifiedRead (q .1) z (q .0) e in
-      let h : w .cache ≡ putBlock k (place u b) (blockAt (w .memory) b) = fetch-cache d m k u b ModifiedRead (q .1) z (q .0) e in
+      let q : (sound d ≡ true) × (u < 4) × (length m ≡ 2048) × (length k ≡ 2048) = accepted-says d m k (Store u a v) r in
+      let y : size (w .directory) ≡ 64 = fetch-size d m k u b ModifiedRead refl (q .1) z (q .0) e in
+      let s : SlotsLoaded d u b (w .directory) = fetch-slots d m k u b ModifiedRead refl (q .1) z (q .0) e in
+      let o : MissOrders d m k u b ModifiedRead (w .orders) (w .memory) = fetch-orders d m k u b ModifiedRead refl (q .1) z (q .0) e in
+      let h : w .cache ≡ putBlock k (place u b) (blockAt (w .memory) b) = fetch-cache d m k u b ModifiedRead refl (q .1) z (q .0) e in
       let c : (claim u b w .orders ≡ w .orders) × (claim u b w .memory ≡ w .memory) × (claim u b w .cache ≡ w .cache) = claim-does u b w y in
       rw (acts d m k (Store u a v) r, fetches u a v i e)
       (record {
@@ -508,6 +606,10 @@ module _ (d : Directory) (m k : List ℕ) (z : size d ≡ 64) where
         cache =
             ap (λ (x : List ℕ). putWord x (cachePlace u a) v) (c .2 ∙ h ∙ ap (λ (x : List ℕ). putBlock k (place u b) (blockAt x b)) (sym (c .1)))
             ∙ ap (λ (p : ℕ). putWord (putBlock k (place u b) (blockAt (claim u b w .memory) b)) p v) (word-place u a);
+        taken = λ h g y.
+            ap (λ (x : List ℕ). putWord x (cachePlace u a) v)
+            (c .2 ∙ fetch-taken d m k u b ModifiedRead refl (q .1) z (q .0) e (q .2) (q .3) h g y)
+            ∙ ap (λ (p : ℕ). putWord (putBlock k (place u b) (blockAt k (place h b))) p v) (word-place u a);
       })
 
   -- a write-through unit has nothing EM
@@ -515,7 +617,7 @@ module _ (d : Directory) (m k : List ℕ) (z : size d ≡ 64) where
   unfolding slotOf Kinds
   not-own-em u b s l q t h e = false≢true (sym (tests-rules d .whole .enough q .1 u s b l h e) ∙ t)
 
-  -- the machine once write-through unit u has asked for block b
+  -- the machine once write-through unit u has asked for block b: its order is given again whatever the settings
   module _ (u b : ℕ) (l : u < 4) (q : sound d ≡ true) (t : through (d .settings) u ≡ true) where
     abbrev w₂ : Run
     w₂ = ask u MemoryWrite b (ready d m k)
@@ -524,15 +626,12 @@ module _ (d : Directory) (m k : List ℕ) (z : size d ≡ 64) where
     unfolding ready
     size₂ = ask-size u MemoryWrite b (ready d m k) ∙ z
 
-    held₂ : (v : ℕ) → v < 4 → slotAt d (place v b) ≡ Modified b
-        → w₂ ≡ give u MemoryWrite b false (copyback v (place v b) b (give u MemoryWrite b true (ready d m k)))
-    unfolding ready
+    held₂ : (v : ℕ) → v < 4 → slotAt d (place v b) ≡ Modified b → w₂ ≡ give u MemoryWrite b false (yielded u MemoryWrite b v (ready d m k))
+    unfolding ready reads
     held₂ v g e =
-        ask-held u MemoryWrite b (ready d m k) v g e
-        (λ o h y.
-        sym (place-unit o b)
-        ∙ sound-exclusive d (place o b) (place v b) b q (place-lt o b h) (place-lt v b g) y (modified-holds _ b e)
-        ∙ place-unit v b)
+        ask-held u MemoryWrite b (ready d m k) v g (owner-is d b v q g e)
+        ∙ ap (λ (t : Bool). cond t (yielded u MemoryWrite b v (ready d m k)) (give u MemoryWrite b false (yielded u MemoryWrite b v (ready d m k))))
+        (and-false (d .settings .steal))
 
     free₂ : NoneHasEM d b → w₂ ≡ give u MemoryWrite b false (ready d m k)
     unfolding ready
@@ -582,7 +681,7 @@ module _ (d : Directory) (m k : List ℕ) (z : size d ≡ 64) where
   unfolding unitOf storeThrough writeThrough write ready
   store-through u a v r t =
       let b : ℕ = a / 32 in
-      let q : (sound d ≡ true) × (u < 4) = accepted-says d m k (Store u a v) r in
+      let q : (sound d ≡ true) × (u < 4) × (length m ≡ 2048) × (length k ≡ 2048) = accepted-says d m k (Store u a v) r in
       let x : Run = ask u MemoryWrite b (ready d m k) in
       let g : Expelled b x (eachUnit (expel u b) x) = each-does u b x (size₂ u b (q .1) (q .0) t) .0 in
       rw (acts d m k (Store u a v) r, writes u a v t)
@@ -611,7 +710,7 @@ module _ (d : Directory) (m k : List ℕ) (z : size d ≡ 64) where
       → FlushHeld d k u b (by u Copyback b false ∷ []) (putBlock m b (blockAt k (place u b))) (after d m k (Flush u b))
   unfolding unitOf ready
   flush-modified u b r e =
-      let q : (sound d ≡ true) × (u < 4) = accepted-says d m k (Flush u b) r in
+      let q : (sound d ≡ true) × (u < 4) × (length m ≡ 2048) × (length k ≡ 2048) = accepted-says d m k (Flush u b) r in
       rw (acts d m k (Flush u b) r, flushes u b (modified-holds _ b e))
       (record {
         orders = empty-em u (place u b) (ready d m k) b e .0;
@@ -624,7 +723,7 @@ module _ (d : Directory) (m k : List ℕ) (z : size d ≡ 64) where
       → FlushHeld d k u b [] m (after d m k (Flush u b))
   unfolding unitOf ready
   flush-shared u b r e =
-      let q : (sound d ≡ true) × (u < 4) = accepted-says d m k (Flush u b) r in
+      let q : (sound d ≡ true) × (u < 4) × (length m ≡ 2048) × (length k ≡ 2048) = accepted-says d m k (Flush u b) r in
       let n : NotEM d (place u b) = λ c y. shared≢modified b c (sym e ∙ y) in
       rw (acts d m k (Flush u b) r, flushes u b (shared-holds _ b e))
       (record {
@@ -690,17 +789,6 @@ peek-sound d m k b e = go (sized m k) (sound d) (isBlock b) (rw (peek-tests d m 
     go true true g e = refl
     go true false g e = absurd (omega arith)
     go false t g e = absurd (omega arith)
-
--- the one unit that has block b EM
-owner-is : (d : Directory) (b v : ℕ) → sound d ≡ true → v < 4 → slotAt d (place v b) ≡ Modified b → ownerOf d b ≡ v
-owner-is d b v s g e =
-    ⊎-elim
-    (λ q.
-    sym (place-unit (ownerOf d b) b)
-    ∙ sound-exclusive d (place (ownerOf d b) b) (place v b) b s (place-lt (ownerOf d b) b (q .0)) (place-lt v b g) (q .1) (modified-holds _ b e)
-    ∙ place-unit v b)
-    (λ q. absurd (q .1 v g e))
-    (owner-cases d b)
 
 slot-offset : (v b : ℕ) → 32 * place v b ≡ 512 * v + 32 * (b % 16)
 unfolding place

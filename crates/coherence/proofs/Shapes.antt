@@ -14,7 +14,7 @@ use Rattle.coherence.specs.Settings.{through}
 use Rattle.coherence.specs.declared.Call.{Call}
 use Rattle.coherence.specs.declared.Call.the-variants.{Load, Store, Flush}
 use Rattle.coherence.specs.Slots.{place, slotAt, setSlot, holds, modified, ownerOf}
-use Rattle.coherence.specs.Access.{Run, ready, give, mark, writeBack, copyback, emptied, empty, yield, ask, fill, fetch, eachUnit, expel, claim, write, load, own, writeThrough, storeThrough, store, flush}
+use Rattle.coherence.specs.Access.{Run, ready, give, mark, writeBack, copyback, emptied, empty, yield, stolen, asked, ask, fill, fetch, eachUnit, expel, claim, write, load, own, writeThrough, storeThrough, store, flush}
 use Rattle.coherence.specs.Calls.{act, refusal, after, answer}
 use lib.Dec.{ltb, eqb}
 
@@ -56,14 +56,21 @@ yield-shape u k b v w =
     either (ltb v 4) (copyback v (place v b) b (give u k b true w)) w (shape w)
     (copyback-shape v (place v b) b (give u k b true w) ∙ give-shape u k b true w) refl
 
+ask-shape : (u : ℕ) (k : Command) (b : ℕ) (w : Run) → shape (ask u k b w) ≡ shape w
+unfolding ask asked
+ask-shape u k b w =
+    let v : ℕ = ownerOf (w .directory) b in
+    let y : Run = yield u k b v w in
+    let s : shape y ≡ shape w = yield-shape u k b v w in
+    either (stolen (w .directory .settings) k v) y (give u k b false y) (shape w) s (give-shape u k b false y ∙ s)
+
 fetch-shape : (u : ℕ) (k : Command) (b : ℕ) (w : Run) → shape (fetch u k b w) ≡ shape w
-unfolding fetch fill ask setSlot
+unfolding fetch fill setSlot
 fetch-shape u k b w =
     let e : Run = empty u (place u b) w in
-    let y : Run = yield u k b (ownerOf (e .directory) b) e in
-    ap (λ (n : ℕ). (n, give u k b false y .directory .settings)) (length-set (give u k b false y .directory .slots) (place u b) (record { slot = Shared b }))
-    ∙ give-shape u k b false y
-    ∙ yield-shape u k b (ownerOf (e .directory) b) e
+    let a : Run = ask u k b e in
+    ap (λ (n : ℕ). (n, a .directory .settings)) (length-set (a .directory .slots) (place u b) (record { slot = Shared b }))
+    ∙ ask-shape u k b e
     ∙ empty-shape u (place u b) w
 
 expel-shape : (u b v : ℕ) (w : Run) → shape (expel u b v w) ≡ shape w
@@ -92,12 +99,8 @@ own-shape u b w =
     ∙ either (holds x b) (give u Invalidate b false w) (fetch u ModifiedRead b w) (shape w) (give-shape u Invalidate b false w) (fetch-shape u ModifiedRead b w))
 
 through-shape : (u a v : ℕ) (w : Run) → shape (storeThrough u a v w) ≡ shape w
-unfolding storeThrough writeThrough ask
-through-shape u a v w =
-    let y : Run = yield u MemoryWrite (a / 32) (ownerOf (w .directory) (a / 32)) w in
-    each-shape u (a / 32) (give u MemoryWrite (a / 32) false y)
-    ∙ give-shape u MemoryWrite (a / 32) false y
-    ∙ yield-shape u MemoryWrite (a / 32) (ownerOf (w .directory) (a / 32)) w
+unfolding storeThrough writeThrough
+through-shape u a v w = each-shape u (a / 32) (ask u MemoryWrite (a / 32) w) ∙ ask-shape u MemoryWrite (a / 32) w
 
 act-shape : (c : Call) (w : Run) → shape (act c w) ≡ shape w
 unfolding act load store write flush

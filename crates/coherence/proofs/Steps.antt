@@ -24,7 +24,7 @@ use Rattle.coherence.proofs.PlainLaws.{own-words, load-accepted, store-
 use Rattle.coherence.proofs.Rules.{slots-test, kinds-test, sound-of}
 use Rattle.coherence.proofs.RefusalLaws.{call-tests, sized-true}
 use Rattle.coherence.proofs.Counts.{orders-in}
-use Rattle.coherence.proofs.Weights.{debt}
+use Rattle.coherence.proofs.Weights.{Enough, debt}
 use Rattle.coherence.proofs.Invariant.{Beside, Lawful, Inv}
 use Rattle.coherence.proofs.Actions.{Keeps, cost}
 use Rattle.coherence.proofs.Accesses.{takeOver, written, storing, load-keeps, store-keeps, flush-keeps}
@@ -82,19 +82,19 @@ stored d u a v p = go (modified (slotAt d (place u (a / 32))) (a / 32))
     go true = refl
     go false = refl
 
-acts : (e : ℕ) → 2 ≤ e → (p : Beside) (c : Call) (w : Run) → plainAccepts c ≡ true → Keeps p w
+acts : (e : ℕ) (p : Beside) → Enough e (p .settings) → (c : Call) (w : Run) → plainAccepts c ≡ true → Keeps p w
     → Keeps (besideBy (w .directory) c p) (act c w) × (cost e (act c w) ≤ cost e w + charge e c) × (loaded c (act c w) ≡ plainNumber c (p .plain))
 unfolding act loaded charge besideBy plainPut takenBy plainNumber
-acts e two p (Load u a) w z i =
+acts e p enough (Load u a) w z i =
     let q : (u ≤ 3) × (a % 4 ≡ 0) × (a ≤ 2044) = load-accepted u a z in
-    load-keeps e two p u a w (omega arith) (q .1) (q .2) i
-acts e two p (Store u a v) w z i =
+    load-keeps e p enough u a w (omega arith) (q .1) (q .2) i
+acts e p enough (Store u a v) w z i =
     let q : (u ≤ 3) × (a % 4 ≡ 0) × (a ≤ 2044) = store-accepted u a v z in
-    let g = store-keeps e two p u a v w (omega arith) (q .1) (q .2) i in
+    let g = store-keeps e p enough u a v w (omega arith) (q .1) (q .2) i in
     (rw (stored (w .directory) u a v p) at (g .0), g .1, refl)
-acts e two p (Flush u b) w z i =
+acts e p enough (Flush u b) w z i =
     let q : (u ≤ 3) × (b ≤ 63) = flush-accepted u b z in
-    let g : Keeps p (flush u b w) × (cost e (flush u b w) ≤ cost e w) = flush-keeps e two p u b w (omega arith) i in
+    let g : Keeps p (flush u b w) × (cost e (flush u b w) ≤ cost e w) = flush-keeps e p enough u b w (omega arith) i in
     (g .0, omega arith, refl)
 
 -- what the call c comes to, given d, m and k
@@ -110,10 +110,10 @@ record Left (e : ℕ) (p : Beside) (d : Directory) (c : Call) (n v : ℕ) (w : R
   number : v ≡ plainReply c (p .plain) .number
   cost : length (w .orders) + debt e (w .directory) ≤ cond (plainAccepts c) (charge e c) 0 + debt e d
 
-left : (e : ℕ) → 2 ≤ e → (p : Beside) (d : Directory) (m k : List ℕ) (c : Call) → Inv p d m k
+left : (e : ℕ) (p : Beside) → Enough e (p .settings) → (d : Directory) (m k : List ℕ) (c : Call) → Inv p d m k
     → Left e p d c (refusal d m k c) (valueOf d m k c) (after d m k c)
 unfolding valueOf after ready cost besideAfter besideBy plainAfter takenAfter plainReply
-left e two p d m k c i = go (eqb (refusal d m k c) 0) refl
+left e p enough d m k c i = go (eqb (refusal d m k c) 0) refl
   where
     w : Run
     w = ready d m k
@@ -123,7 +123,7 @@ left e two p d m k c i = go (eqb (refusal d m k c) 0) refl
     go true z =
         let a : plainAccepts c ≡ true = sym (inv-accepts p d m k i c) ∙ z in
         let h : Keeps (besideBy d c p) (act c w) × (cost e (act c w) ≤ cost e w + charge e c) × (loaded c (act c w) ≡ plainNumber c (p .plain)) =
-        acts e two p c w a i in
+        acts e p enough c w a i in
         record { keeps = rw a (h .0); accepted = inv-accepts p d m k i c; number = rw a (h .2); cost = rw a (omega (arith, h .1)) }
     go false z =
         let a : plainAccepts c ≡ false = sym (inv-accepts p d m k i c) ∙ z in
@@ -137,10 +137,10 @@ plain-accepted : (c : Call) (p : List ℕ) → plainReply c p .accepted ≡ plai
 unfolding plainReply
 plain-accepted c p = refl
 
-pub step : (e : ℕ) → 2 ≤ e → (p : Beside) (d : Directory) (m k : List ℕ) (c : Call) → Inv p d m k → Stepped e p d m k c
+pub step : (e : ℕ) (p : Beside) → Enough e (p .settings) → (d : Directory) (m k : List ℕ) (c : Call) → Inv p d m k → Stepped e p d m k c
 unfolding answer memoryAfter cacheAfter
-step e two p d m k c i =
-    let l : Left e p d c (refusal d m k c) (valueOf d m k c) (after d m k c) = left e two p d m k c i in
+step e p enough d m k c i =
+    let l : Left e p d c (refusal d m k c) (valueOf d m k c) (after d m k c) = left e p enough d m k c i in
     record {
       keeps = l .keeps;
       says = reply-is (answer d m k c) (plainReply c (p .plain)) (l .accepted ∙ sym (plain-accepted c (p .plain))) (l .number);
@@ -157,18 +157,18 @@ pub record Over (e : ℕ) (p : Beside) (d : Directory) (cs : List Call) (rs : Li
   pub lawful : Each (λ r. Lawful (p .settings) (r .directory)) rs
   pub cost : ordersGiven rs + debt e d′ ≤ acceptedOf (charge e) cs + debt e d
 
-pub run : (e : ℕ) → 2 ≤ e → (p : Beside) (d : Directory) (m k : List ℕ) (cs : List Call) (rs : List Answer) (d′ : Directory) (m′ k′ : List ℕ)
+pub run : (e : ℕ) (p : Beside) → Enough e (p .settings) → (d : Directory) (m k : List ℕ) (cs : List Call) (rs : List Answer) (d′ : Directory) (m′ k′ : List ℕ)
     → Inv p d m k → Ran d m k cs rs d′ m′ k′ → Over e p d cs rs d′ m′ k′
 unfolding Ran Each ordersGiven acceptedOf plainReplies plainAfterAll takenAfterAll besideAfterAll besideAfter
-run e two p d m k [] [] d′ m′ k′ i h =
+run e p enough d m k [] [] d′ m′ k′ i h =
     record { keeps = rw (h .0, h .1, h .2) i; says = refl; lawful = tt; cost = rw (h .0) (omega arith) }
-run e two p d m k [] (r ∷ rs) d′ m′ k′ i h = absurd h
-run e two p d m k (c ∷ cs) [] d′ m′ k′ i h = absurd h
-run e two p d m k (c ∷ cs) (r ∷ rs) d′ m′ k′ i h =
+run e p enough d m k [] (r ∷ rs) d′ m′ k′ i h = absurd h
+run e p enough d m k (c ∷ cs) [] d′ m′ k′ i h = absurd h
+run e p enough d m k (c ∷ cs) (r ∷ rs) d′ m′ k′ i h =
     let a : Answered d m k c r (h .0) (h .1) = h .2 in
-    let s : Stepped e p d m k c = step e two p d m k c i in
+    let s : Stepped e p d m k c = step e p enough d m k c i in
     let j : Inv (besideAfter d c p) (r .directory) (h .0) (h .1) = rw (a .answers, a .memory, a .cache) (s .keeps) in
-    let o : Over e (besideAfter d c p) (r .directory) cs rs d′ m′ k′ = run e two (besideAfter d c p) (r .directory) (h .0) (h .1) cs rs d′ m′ k′ j (h .3) in
+    let o : Over e (besideAfter d c p) (r .directory) cs rs d′ m′ k′ = run e (besideAfter d c p) enough (r .directory) (h .0) (h .1) cs rs d′ m′ k′ j (h .3) in
     let x : length (ordersIn r) + debt e (r .directory) ≤ cond (plainAccepts c) (charge e c) 0 + debt e d = rw (a .answers) (s .cost) in
     record {
       keeps = o .keeps;

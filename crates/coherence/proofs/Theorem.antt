@@ -18,11 +18,11 @@ use Rattle.coherence.specs.Slots.{place, slotAt, holds, ownerOf, coldDir
 use Rattle.coherence.specs.Refusal.{isBlock, peekRefusal}
 use Rattle.coherence.specs.Peek.{fromCache, newestBlock, newest, peeked}
 use Rattle.coherence.specs.PlainMemory.{plainAccepts}
-use Rattle.coherence.specs.Demand3.{Started, Session, isLoad, isStore, acceptedOf, loads, stores, Each, Demand3Holds, PeekPlain, PeekShowsPlain}
+use Rattle.coherence.specs.Demand3.{Started, Session, isLoad, isStore, acceptedOf, loads, stores, perStore, Each, Demand3Holds, PeekPlain, PeekShowsPlain}
 use Rattle.coherence.specs.Snapshot.{Snapshots}
 use Rattle.coherence.proofs.SlotLaws.{holds-invalid, modified-holds, owner-cases, size-cold, slot-cold}
 use Rattle.coherence.proofs.RefusalLaws.{peek-tests, sized-true, start-passed}
-use Rattle.coherence.proofs.Weights.{debt, debt-cold}
+use Rattle.coherence.proofs.Weights.{weightOf, enough, debt, debt-cold}
 use Rattle.coherence.proofs.Invariant.{Beside, Lawful, Inv}
 use Rattle.coherence.proofs.Actions.{none-em}
 use Rattle.coherence.proofs.Sessions.{start-accepted, start-directory, start-cache}
@@ -71,30 +71,30 @@ module _
     first : Inv (atFirst g m) (s .directory) m (h .cleared)
     first = start-keeps g m s (h .lent) (h .cleared) (h .started) (h .accepts)
 
-    -- with weight 2
-    whole : Over 2 (atFirst g m) (s .directory) cs rs d′ m′ k′
-    whole = run 2 (omega arith) (atFirst g m) (s .directory) m (h .cleared) cs rs d′ m′ k′ first (h .ran)
+    whole : Over (weightOf g) (atFirst g m) (s .directory) cs rs d′ m′ k′
+    unfolding atFirst
+    whole = run (weightOf g) (atFirst g m) (enough g) (s .directory) m (h .cleared) cs rs d′ m′ k′ first (h .ran)
 
-    no-debt : debt 2 (s .directory) ≡ 0
-    no-debt = rw (start-directory g m s (h .lent) (h .cleared) (h .started) (h .accepts)) (debt-cold 2 g)
+    no-debt : debt (weightOf g) (s .directory) ≡ 0
+    no-debt = rw (start-directory g m s (h .lent) (h .cleared) (h .started) (h .accepts)) (debt-cold (weightOf g) g)
 
--- the charges with weight 2 are one for a load and three for a store
-charge-two : (c : Call) → charge 2 c ≡ isLoad c + 3 * isStore c
-unfolding charge isLoad isStore
-charge-two (Load u a) = refl
-charge-two (Store u a v) = refl
-charge-two (Flush u b) = refl
-
-charges : (cs : List Call) → acceptedOf (charge 2) cs ≡ acceptedOf isLoad cs + 3 * acceptedOf isStore cs
-unfolding acceptedOf
-charges [] = omega arith
-charges (c ∷ cs) = go (plainAccepts c) (charges cs)
+-- the charges with that weight are one for a load and `perStore` for a store
+charges : (g : Settings) (cs : List Call) → acceptedOf (charge (weightOf g)) cs ≡ acceptedOf isLoad cs + perStore g * acceptedOf isStore cs
+unfolding acceptedOf perStore weightOf charge isLoad isStore
+charges g [] = omega arith
+charges g (c ∷ cs) = go (g .steal) (plainAccepts c) c (charges g cs)
   where
-    go : (t : Bool) → acceptedOf (charge 2) cs ≡ acceptedOf isLoad cs + 3 * acceptedOf isStore cs
-        → cond t (charge 2 c) 0 + acceptedOf (charge 2) cs
-        ≡ (cond t (isLoad c) 0 + acceptedOf isLoad cs) + 3 * (cond t (isStore c) 0 + acceptedOf isStore cs)
-    go true r = omega (arith, charge-two c)
-    go false r = omega arith
+    go : (t s : Bool) (c : Call) → acceptedOf (charge (cond t 1 2)) cs ≡ acceptedOf isLoad cs + cond t 2 3 * acceptedOf isStore cs
+        → cond s (charge (cond t 1 2) c) 0 + acceptedOf (charge (cond t 1 2)) cs
+        ≡ (cond s (isLoad c) 0 + acceptedOf isLoad cs) + cond t 2 3 * (cond s (isStore c) 0 + acceptedOf isStore cs)
+    go true true (Load u a) r = omega arith
+    go true true (Store u a v) r = omega arith
+    go true true (Flush u b) r = omega arith
+    go false true (Load u a) r = omega arith
+    go false true (Store u a v) r = omega arith
+    go false true (Flush u b) r = omega arith
+    go true false c r = omega arith
+    go false false c r = omega arith
 
 -- ---- demand 3
 each-map : (P Q : Answer → Type 0) → ((r : Answer) → P r → Q r) → (rs : List Answer) → Each P rs → Each Q rs
@@ -105,7 +105,7 @@ each-map P Q f (r ∷ rs) h = (f r (h .0), each-map P Q f rs (h .1))
 pub demand3 : Demand3Holds
 unfolding Demand3Holds loads stores atFirst
 demand3 g m s cs rs d′ m′ k′ h =
-    let o : Over 2 (atFirst g m) (s .directory) cs rs d′ m′ k′ = whole g m s cs rs d′ m′ k′ h in
+    let o : Over (weightOf g) (atFirst g m) (s .directory) cs rs d′ m′ k′ = whole g m s cs rs d′ m′ k′ h in
     let i : Lawful g (s .directory) = first g m s cs rs d′ m′ k′ h .lawful in
     record {
       plain = o .says;
@@ -113,7 +113,7 @@ demand3 g m s cs rs d′ m′ k′ h =
       exclusive = each-map _ _ (λ r l. lawful-exclusive g (r .directory) l) rs (o .lawful);
       chosenFirst = i .chosen;
       chosen = each-map _ _ (λ r l. l .chosen) rs (o .lawful);
-      bill = omega (arith, o .cost, no-debt g m s cs rs d′ m′ k′ h, charges cs);
+      bill = omega (arith, o .cost, no-debt g m s cs rs d′ m′ k′ h, charges g cs);
     }
 
 -- ---- peek

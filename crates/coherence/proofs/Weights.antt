@@ -1,7 +1,9 @@
--- What the EM slots of a directory may still cost: e orders each. The weight e is a parameter of every law of cost; the bill takes it to be 2.
-use mathlib.Core.Path.{_≡_, refl}
+-- What the EM slots of a directory may still cost: e orders each. The weight e is a parameter of every law of cost: an
+-- EM block of another unit is retried and copied back, and given up or asked for again; with steal, 1 is enough, else 2.
+use mathlib.Core.Path.{_≡_, refl, sym}
 use mathlib.Core.List.{List, [], _∷_}
-use Prim.Native.Nat.{ℕ, zero, suc, _+_, _<_}
+use mathlib.Core.Bool.{Bool, true, false, cond, false≢true}
+use Prim.Native.Nat.{ℕ, zero, suc, _+_, _≤_, _<_}
 use native.Mathlib.Omega.{arith}
 use lib.ListN.{length, getD, set, replicate}
 use Rattle.coherence.specs.declared.Slot.{Slot}
@@ -11,6 +13,20 @@ use Rattle.coherence.specs.declared.Settings.{Settings}
 use Rattle.coherence.specs.declared.Directory.{Directory}
 use Rattle.coherence.specs.Slots.{emptyEntry, slotAt, setSlot, coldDirectory}
 use Rattle.coherence.proofs.SlotLaws.{size}
+
+abbrev pub Enough : ℕ → Settings → Type 0
+Enough e g = (1 ≤ e) × (g .steal ≡ false → 2 ≤ e)
+
+unfoldable pub weightOf : Settings → ℕ
+weightOf g = cond (g .steal) 1 2
+
+pub enough : (g : Settings) → Enough (weightOf g) g
+unfolding weightOf
+enough g = go (g .steal)
+  where
+    go : (t : Bool) → (1 ≤ cond t 1 2) × (t ≡ false → 2 ≤ cond t 1 2)
+    go true = (omega arith, λ q. absurd (false≢true (sym q)))
+    go false = (omega arith, λ q. omega arith)
 
 abbrev pub weight : ℕ → Slot → ℕ
 weight e Invalid = 0

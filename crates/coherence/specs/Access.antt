@@ -1,5 +1,5 @@
--- Document 01, "What an access does", with document 02, T-05: bus actions on the directory and the two stores, each with the orders that it gives,
--- and loads, stores and flushes made of them. Unit u, block b, slot b mod 16.
+-- Document 01, "What an access does", with document 02, T-05 and T-13: bus actions on the directory and the two stores, each with the orders that it
+-- gives, and loads, stores and flushes made of them. Unit u, block b, slot b mod 16.
 use Prim.Native.Nat.{ℕ, _+_, _*_, _/_, _%_}
 use mathlib.Core.Bool.{Bool, true, false, cond, not, _&&_}
 use mathlib.Core.List.{List, [], _∷_, _++_}
@@ -9,6 +9,7 @@ use Rattle.order.specs.declared.Command.the-variants.{Read, ModifiedRead, Inval
 use Rattle.order.specs.declared.Order.{Order}
 use Rattle.coherence.specs.declared.Slot.{Slot}
 use Rattle.coherence.specs.declared.Slot.the-variants.{Invalid, Shared, Modified}
+use Rattle.coherence.specs.declared.Settings.{Settings}
 use Rattle.coherence.specs.declared.Directory.{Directory}
 use Rattle.coherence.specs.Bytes.{blockAt, putBlock, putWord}
 use Rattle.coherence.specs.Settings.{through}
@@ -66,9 +67,26 @@ empty u n w = emptied u n (slotAt (w .directory) n) w
 unfoldable pub yield : ℕ → Command → ℕ → ℕ → Run → Run
 yield u k b v w = cond (ltb v 4) (copyback v (place v b) b (give u k b true w)) w
 
--- "and u gives the same order again, not retried": unit u's order k for block b, which u does not have EM
+-- a read or modified read: the orders by which a unit takes a block
+unfoldable pub reads : Command → Bool
+reads Read = true
+reads ModifiedRead = true
+reads Invalidate = false
+reads Copyback = false
+reads MemoryWrite = false
+
+-- T-13: "With steal on, .. a retried read or modified read isn't given again: the asker takes the block during the copyback." What is filled from memory
+-- then are the bytes that passed. "For a modified read the old holder becomes I", with all other holders: `claim`. "Memory writes are given again"
+unfoldable pub stolen : Settings → Command → ℕ → Bool
+stolen g k v = g .steal && reads k && ltb v 4
+
+-- "and u gives the same order again, not retried", unless it is stolen; where no unit has the block EM, the order is given once
+unfoldable pub asked : ℕ → Command → ℕ → ℕ → Run → Run
+asked u k b v w = cond (stolen (w .directory .settings) k v) (yield u k b v w) (give u k b false (yield u k b v w))
+
+-- unit u's order k for block b, which u does not have EM
 unfoldable pub ask : ℕ → Command → ℕ → Run → Run
-ask u k b w = give u k b false (yield u k b (ownerOf (w .directory) b) w)
+ask u k b w = asked u k b (ownerOf (w .directory) b) w
 
 -- "The block is filled from memory. Load: SU." Slot n takes block b
 unfoldable pub fill : ℕ → ℕ → Run → Run

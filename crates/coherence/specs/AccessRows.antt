@@ -1,4 +1,4 @@
--- Each case of document 01's "What an access does" and of document 02's T-05 once, on one slot of the four units, with all that the call answers and leaves:
+-- Each case of document 01's "What an access does" and of document 02's T-05 and T-13 once, on one slot of the four units, with all that the call answers and leaves:
 -- orders, value, slots and bytes written out. Peek and cold start likewise. Each is a computation on the definitions that the contracts cite.
 use Prim.Native.Nat.{ℕ, _*_}
 use mathlib.Core.Path.{_≡_}
@@ -37,10 +37,20 @@ slotTwo a b c e = slotTwoOf drillSettings a b c e
 
 -- unit 1, which calls, has a write-through board, and unit 3 too
 unfoldable pub mixedSettings : Settings
-mixedSettings = record { boards = copybackBoard ∷ throughBoard ∷ copybackBoard ∷ throughBoard ∷ [] }
+mixedSettings = record { boards = copybackBoard ∷ throughBoard ∷ copybackBoard ∷ throughBoard ∷ []; steal = false }
 
 unfoldable pub mixedTwo : Slot → Slot → Slot → Slot → Directory
 mixedTwo a b c e = slotTwoOf mixedSettings a b c e
+
+-- with steal on, on copyback boards and on those of `mixedSettings`
+unfoldable pub stealing : Settings → Settings
+stealing g = record { boards = g .boards; steal = true }
+
+unfoldable pub stealTwo : Slot → Slot → Slot → Slot → Directory
+stealTwo a b c e = slotTwoOf (stealing drillSettings) a b c e
+
+unfoldable pub mixedStealTwo : Slot → Slot → Slot → Slot → Directory
+mixedStealTwo a b c e = slotTwoOf (stealing mixedSettings) a b c e
 
 -- memory has 7 in every byte; the caches of units 0 to 3 have 10, 11, 12 and 13
 unfoldable pub sevens : List ℕ
@@ -64,6 +74,10 @@ withBlock b x c = replicate (32 * b) 7 ++ replicate 32 x ++ replicate (32 * c) 7
 -- memory, its block 2 being x
 unfoldable pub withBlockTwo : List ℕ → List ℕ
 withBlockTwo x = replicate 64 7 ++ x ++ replicate 1952 7
+
+-- memory, its block 2 being all x and its block 34 all y
+unfoldable pub withBlocks : ℕ → ℕ → List ℕ
+withBlocks x y = replicate 64 7 ++ replicate 32 x ++ replicate 992 7 ++ replicate 32 y ++ replicate 928 7
 
 -- 32 bytes x, but the word 300 at byte 8
 unfoldable pub withWord : ℕ → List ℕ
@@ -163,6 +177,38 @@ pub record ThroughRows : Type 0 where
   -- "Refusals: 2 also for a write-through unit with an EM slot": unit 3's, before 3 and 4
   pub broken : RefusedRow (mixedTwo Invalid Invalid Invalid (Modified 2)) (Load 4 74) 2
 
+-- T-13: steal is on. On copyback boards but where a unit's board is said to be write-through
+pub record StealRows : Type 0 where
+  -- "a retried read or modified read isn't given again: the asker takes the block during the copyback"
+  pub loadStolen : Row (stealTwo (Modified 2) (Shared 34) (Modified 18) Invalid) (Load 1 72) 168430090
+      (by 1 Read 2 true ∷ by 0 Copyback 2 false ∷ [])
+      (stealTwo (Shared 2) (Shared 2) (Modified 18) Invalid) (withBlock 2 10 61) (withSlot (replicate 32 10))
+  pub loadEvictsAndSteals : Row (stealTwo Invalid (Modified 34) (Modified 2) (Shared 18)) (Load 1 72) 202116108
+      (by 1 Copyback 34 false ∷ by 1 Read 2 true ∷ by 2 Copyback 2 false ∷ [])
+      (stealTwo Invalid (Shared 2) (Shared 2) (Shared 18)) (withBlocks 12 11) (withSlot (replicate 32 12))
+  -- "For a modified read the old holder becomes I."
+  pub storeStolen : Row (stealTwo (Shared 34) Invalid (Shared 34) (Modified 2)) (Store 1 72 300) 0
+      (by 1 ModifiedRead 2 true ∷ by 3 Copyback 2 false ∷ [])
+      (stealTwo (Shared 34) (Modified 2) (Shared 34) Invalid) (withBlock 2 13 61) (withSlot (withWord 13))
+  pub storeEvictsAndSteals : Row (stealTwo (Modified 2) (Modified 34) (Shared 18) Invalid) (Store 1 72 300) 0
+      (by 1 Copyback 34 false ∷ by 1 ModifiedRead 2 true ∷ by 0 Copyback 2 false ∷ [])
+      (stealTwo Invalid (Modified 2) (Shared 18) Invalid) (withBlocks 10 11) (withSlot (withWord 10))
+  -- an order that is not retried is given once
+  pub loadMissed : Row (stealTwo (Shared 2) (Modified 18) Invalid (Shared 34)) (Load 1 72) 117901063
+      (by 1 Copyback 18 false ∷ by 1 Read 2 false ∷ [])
+      (stealTwo (Shared 2) (Shared 2) Invalid (Shared 34)) (withBlock 18 11 45) (withSlot (replicate 32 7))
+  pub storeMissed : Row (stealTwo (Shared 2) (Shared 34) (Modified 18) (Shared 2)) (Store 1 72 300) 0
+      (by 1 ModifiedRead 2 false ∷ [])
+      (stealTwo Invalid (Modified 2) (Modified 18) Invalid) sevens (withSlot (withWord 7))
+  -- "Memory writes are given again as before": unit 1's board is write-through
+  pub memoryWrite : Row (mixedStealTwo (Modified 2) (Shared 34) (Modified 18) Invalid) (Store 1 72 300) 0
+      (by 1 MemoryWrite 2 true ∷ by 0 Copyback 2 false ∷ by 1 MemoryWrite 2 false ∷ [])
+      (mixedStealTwo Invalid (Shared 34) (Modified 18) Invalid) (withBlockTwo (withWord 10)) elevens
+  -- a write-through unit's read is stolen as any other
+  pub loadThrough : Row (mixedStealTwo (Modified 2) (Shared 34) (Modified 18) Invalid) (Load 1 72) 168430090
+      (by 1 Read 2 true ∷ by 0 Copyback 2 false ∷ [])
+      (mixedStealTwo (Shared 2) (Shared 2) (Modified 18) Invalid) (withBlock 2 10 61) (withSlot (replicate 32 10))
+
 -- "from the cache store where some unit has it EM, and from memory in every other case", "those bytes themselves"
 pub record Peeks : Type 0 where
   pub shared : peeked (slotTwo Invalid (Shared 2) (Modified 18) Invalid) sevens (caches elevens) 2 ≡ replicate 32 7
@@ -185,5 +231,6 @@ pub record Starts : Type 0 where
 pub record AccessRows : Type 0 where
   pub rows : Rows
   pub throughRows : ThroughRows
+  pub stealRows : StealRows
   pub peeks : Peeks
   pub starts : Starts

@@ -90,6 +90,10 @@ loads cs = acceptedOf isLoad cs
 unfoldable pub stores : List Call → ℕ
 stores cs = acceptedOf isStore cs
 
+-- the bill of a store. T-13: "The bill then falls to loads plus twice the stores, with write-through units too. With steal off, .. all stays."
+unfoldable pub perStore : Settings → ℕ
+perStore g = cond (g .steal) 2 3
+
 -- P of each answer
 unfoldable pub Each : (Answer → Type 0) → List Answer → Type 0
 Each P [] = Unit {0}
@@ -104,8 +108,8 @@ pub record Demand3 (g : Settings) (m : List ℕ) (s : Start) (cs : List Call) (r
   -- the settings are the chosen ones at first and stay so
   pub chosenFirst : s .directory .settings ≡ g
   pub chosen : Each (λ r. r .directory .settings ≡ g) rs
-  -- the bill: the orders in the answers are at most one for each accepted load and three for each accepted store
-  pub bill : ordersGiven rs ≤ loads cs + 3 * stores cs
+  -- the bill: the orders in the answers are at most one for each accepted load and, for each accepted store, three with steal off and two with steal on
+  pub bill : ordersGiven rs ≤ loads cs + perStore g * stores cs
 
 -- demand 3, of every session
 unfoldable pub Demand3Holds : Type 0

@@ -1,5 +1,5 @@
 -- Document 01's values, with the cold start on zero memory: the drill's six calls, P11, one answer with all four orders, a stored word byte by byte,
--- and the boundaries of the tests; a write-through board among copyback boards; and a few runs that a careless rule would get wrong. Each is a
+-- and the boundaries of the tests; a write-through board among copyback boards; steal; and a few runs that a careless rule would get wrong. Each is a
 -- computation on the definitions.
 use Prim.Native.Nat.{ℕ, _+_, _*_}
 use mathlib.Core.Path.{_≡_}
@@ -19,7 +19,7 @@ use Rattle.coherence.specs.Calls.{answersCold, afterCold}
 use Rattle.coherence.specs.Peek.{peeked}
 use Rattle.coherence.specs.PlainMemory.{plainAccepts}
 use Rattle.coherence.specs.Snapshot.{takenAfterAll}
-use Rattle.coherence.specs.AccessRows.{mixedSettings}
+use Rattle.coherence.specs.AccessRows.{mixedSettings, stealing}
 use Rattle.coherence.specs.Demand3.{ordersIn, ordersGiven, loads, stores}
 
 unfoldable pub zeros : List ℕ
@@ -111,6 +111,17 @@ pub record MixedBoards : Type 0 where
   pub shared : sound (setSlot (coldDirectory mixedSettings) 19 (Shared 3)) ≡ true
   pub other : sound (setSlot (coldDirectory mixedSettings) 3 (Modified 3)) ≡ true
 
+-- T-13: the same boards, with steal on. A read and a modified read are stolen, a memory write is given again
+unfoldable pub stealCalls : List Call
+stealCalls = Store 0 72 9 ∷ Load 2 72 ∷ Store 2 72 10 ∷ Store 0 72 11 ∷ Store 1 72 12 ∷ Load 3 72 ∷ []
+
+pub record Steals : Type 0 where
+  pub lines : map valueAndOrders (answersCold (stealing mixedSettings) zeros stealCalls) ≡ (0, 1) ∷ (9, 2) ∷ (0, 1) ∷ (0, 2) ∷ (0, 3) ∷ (12, 1) ∷ []
+  -- "The bill then falls to loads plus twice the stores": the first two calls give exactly that, one load plus twice one store
+  pub exactly : ordersGiven (answersCold (stealing mixedSettings) zeros (take 2 stealCalls)) ≡ loads (take 2 stealCalls) + 2 * stores (take 2 stealCalls)
+  -- "with write-through units too": twice two stores, the second a memory write
+  pub memoryWrite : ordersGiven (answersCold (stealing mixedSettings) zeros (Store 0 72 9 ∷ Store 1 72 12 ∷ [])) ≡ 4
+
 -- "Addresses 2,044 and 2,048; blocks 63 and 64", and the last unit
 unfoldable pub edgeCalls : List Call
 edgeCalls =
@@ -132,4 +143,5 @@ pub record Examples : Type 0 where
   pub invalidations : Invalidations
   pub directories : Directories
   pub mixedBoards : MixedBoards
+  pub steals : Steals
   pub boundaries : Boundaries

@@ -1,4 +1,4 @@
--- Document 01, "What an access does", and document 02, T-05, sentence by sentence: what an accepted call answers and leaves, for every directory and both stores. These say
+-- Document 01, "What an access does", and document 02, T-05 and T-13, sentence by sentence: what an accepted call answers and leaves, for every directory and both stores. These say
 -- it by slots, literal orders and bytes, apart from the actions of `Access`. Peek and cold start likewise, refused ones too; `Demand3.Refused` is the
 -- same for refused calls.
 use Prim.Native.Nat.{ℕ, _+_, _*_, _/_, _%_, _<_}
@@ -56,11 +56,18 @@ pub record MissOrders (d : Directory) (m k : List ℕ) (u b : ℕ) (x : Command)
   -- "if the slot is EM with another block, order copyback of that block by u."
   pub evicts : (c : ℕ) → slotAt d (place u b) ≡ Modified c → NoneHasEM d b
       → (os ≡ by u Copyback c false ∷ by u x b false ∷ []) × (m′ ≡ putBlock m c (blockAt k (place u b)))
-  -- "If another unit holds b EM, that order is retried, the holder gives copyback .., and u gives the same order again, not retried."
-  pub retried : NotEM d (place u b) → (v : ℕ) → v < 4 → slotAt d (place v b) ≡ Modified b
+  -- "If another unit holds b EM, that order is retried, the holder gives copyback .., and u gives the same order again, not retried." "With steal off, ..
+  -- all stays."
+  pub retried : d .settings .steal ≡ false → NotEM d (place u b) → (v : ℕ) → v < 4 → slotAt d (place v b) ≡ Modified b
       → (os ≡ by u x b true ∷ by v Copyback b false ∷ by u x b false ∷ []) × (m′ ≡ putBlock m b (blockAt k (place v b)))
-  pub both : (c : ℕ) → slotAt d (place u b) ≡ Modified c → (v : ℕ) → v < 4 → slotAt d (place v b) ≡ Modified b
+  pub both : d .settings .steal ≡ false → (c : ℕ) → slotAt d (place u b) ≡ Modified c → (v : ℕ) → v < 4 → slotAt d (place v b) ≡ Modified b
       → (os ≡ by u Copyback c false ∷ by u x b true ∷ by v Copyback b false ∷ by u x b false ∷ [])
+      × (m′ ≡ putBlock (putBlock m c (blockAt k (place u b))) b (blockAt k (place v b)))
+  -- T-13: "With steal on, .. a retried read or modified read isn't given again"
+  pub stolen : d .settings .steal ≡ true → NotEM d (place u b) → (v : ℕ) → v < 4 → slotAt d (place v b) ≡ Modified b
+      → (os ≡ by u x b true ∷ by v Copyback b false ∷ []) × (m′ ≡ putBlock m b (blockAt k (place v b)))
+  pub bothStolen : d .settings .steal ≡ true → (c : ℕ) → slotAt d (place u b) ≡ Modified c → (v : ℕ) → v < 4 → slotAt d (place v b) ≡ Modified b
+      → (os ≡ by u Copyback c false ∷ by u x b true ∷ by v Copyback b false ∷ [])
       × (m′ ≡ putBlock (putBlock m c (blockAt k (place u b))) b (blockAt k (place v b)))
 
 -- the slots that a missed load leaves
@@ -76,7 +83,7 @@ pub record SlotsLoaded (d : Directory) (u b : ℕ) (e : Directory) : Type 0 wher
 pub record SlotsStored (d : Directory) (u b : ℕ) (e : Directory) : Type 0 where
   -- "the slot becomes EM"
   pub own : slotAt e (place u b) ≡ Modified b
-  -- "other units holding b become I"
+  -- "other units holding b become I"; T-13: "For a modified read the old holder becomes I", which is one of them
   pub others : (v : ℕ) → v < 4 → (v ≡ u → ⊥) → holds (slotAt d (place v b)) b ≡ true → slotAt e (place v b) ≡ Invalid
   -- and all else stays
   pub rest : (n : ℕ) → (n ≡ place u b → ⊥) → holds (slotAt d n) b ≡ false → slotAt e n ≡ slotAt d n
@@ -111,6 +118,8 @@ pub record LoadMissed (d : Directory) (m k : List ℕ) (u b : ℕ) (w : Run) : T
   pub slots : SlotsLoaded d u b (w .directory)
   -- "The block is filled from memory."
   pub cache : w .cache ≡ putBlock k (place u b) (blockAt (w .memory) b)
+  -- T-13: "the asker takes the block during the copyback": the bytes are the holder's; with steal off they are too
+  pub taken : (h : ℕ) → h < 4 → slotAt d (place h b) ≡ Modified b → w .cache ≡ putBlock k (place u b) (blockAt k (place h b))
 
 pub record StoreShared (d : Directory) (m k : List ℕ) (u a v : ℕ) (w : Run) : Type 0 where
   -- "order invalidate"
@@ -125,12 +134,15 @@ pub record StoreMissed (d : Directory) (m k : List ℕ) (u a v : ℕ) (w : Run) 
   pub slots : SlotsStored d u (a / 32) (w .directory)
   -- "The block is filled from memory." "A store writes its word in u's cache only."
   pub cache : w .cache ≡ putWord (putBlock k (place u (a / 32)) (blockAt (w .memory) (a / 32))) (wordPlace u a) v
+  -- as in `LoadMissed`
+  pub taken : (h : ℕ) → h < 4 → slotAt d (place h (a / 32)) ≡ Modified (a / 32)
+      → w .cache ≡ putWord (putBlock k (place u (a / 32)) (blockAt k (place h (a / 32)))) (wordPlace u a) v
 
 -- the orders os that write-through unit u gives for its store of v at a, and the memory m′ then: "memory .. take[s] the word"
 pub record ThroughOrders (d : Directory) (m k : List ℕ) (u a v : ℕ) (os : List Order) (m′ : List ℕ) : Type 0 where
   -- "Its store gives order memory write"
   pub alone : NoneHasEM d (a / 32) → (os ≡ by u MemoryWrite (a / 32) false ∷ []) × (m′ ≡ putWord m a v)
-  -- "retried like a read when another unit is EM"
+  -- "retried like a read when another unit is EM"; T-13: "Memory writes are given again as before", whatever the settings
   pub retried : (h : ℕ) → h < 4 → slotAt d (place h (a / 32)) ≡ Modified (a / 32)
       → (os ≡ by u MemoryWrite (a / 32) true ∷ by h Copyback (a / 32) false ∷ by u MemoryWrite (a / 32) false ∷ [])
       × (m′ ≡ putWord (putBlock m (a / 32) (blockAt k (place h (a / 32)))) a v)
@@ -176,7 +188,7 @@ pub record Sentences (d : Directory) (m k : List ℕ) : Type 0 where
   -- "Not held: accepted, no orders."
   pub flushOther : (u b : ℕ) → Accepted d m k (Flush u b) → holds (slotAt d (place u b)) b ≡ false
       → Leaves d m [] k (left d m k (Flush u b))
-  -- T-05: "a kind for each unit, chosen at cold start": no call changes the settings
+  -- T-05: "a kind for each unit, chosen at cold start", T-13: "and kept like the boards' kinds": no call changes the settings
   pub kept : (c : Call) → answer d m k c .directory .settings ≡ d .settings
   -- the number that a load answers: the word in u's cache then; a store and a flush answer 0, by our choice
   pub loaded : (u a : ℕ) → Accepted d m k (Load u a)

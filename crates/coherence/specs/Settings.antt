@@ -1,4 +1,5 @@
--- What is chosen at cold start and kept (document 02, T-05: "The directory gains a kind for each unit, chosen at cold start").
+-- What is chosen at cold start and kept (document 02, T-05: "The directory gains a kind for each unit, chosen at cold start"; T-13: "steal .., chosen at cold
+-- start and kept like the boards' kinds").
 use Prim.Native.Nat.{ℕ}
 use mathlib.Core.Bool.{Bool, true, false}
 use lib.ListN.{getD, replicate}
@@ -21,6 +22,6 @@ isThrough WriteThrough = true
 unfoldable pub through : Settings → ℕ → Bool
 through g u = isThrough ((getD (g .boards) u copybackBoard) .kind)
 
--- "Drill keeps copyback boards."
+-- "Drill keeps copyback boards"; "With steal off, as in drill".
 unfoldable pub drillSettings : Settings
-drillSettings = record { boards = replicate 4 copybackBoard }
+drillSettings = record { boards = replicate 4 copybackBoard; steal = false }

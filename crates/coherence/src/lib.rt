@@ -26,9 +26,11 @@ pub struct Board {
     pub kind: Kind,
 }
 
-// What is chosen at cold start and stays: the board of each unit.
+// What is chosen at cold start and stays: the board of each unit, and whether a unit whose read or modified read was retried takes the block during the
+// holder's copyback (document 02, T-13).
 pub struct Settings {
     pub boards: [Board; 4],
+    pub steal: bool,
 }
 
 // The slots of all four units, slot s of unit u being number 16 u + s, and the settings.

@@ -13,7 +13,7 @@ use Rattle.coherence.specs.declared.Answer.{Answer}
 use Rattle.coherence.specs.PlainMemory.{plainReply, plainAfter, plainReplies}
 use Rattle.coherence.specs.Settings.{drillSettings}
 use Rattle.coherence.specs.Calls.{answer, memoryAfter, cacheAfter, answers, answersCold, startAnswer}
-use Rattle.coherence.specs.Demand3.{Demand3, Demand3Holds, ordersIn, ordersGiven, reply, Each}
+use Rattle.coherence.specs.Demand3.{Demand3, Demand3Holds, perStore, ordersIn, ordersGiven, reply, Each}
 use Rattle.coherence.proofs.Sessions.{sessions}
 use Rattle.coherence.proofs.Theorem.{demand3}
 use Rattle.tape_format.specs.declared.Record.{Record}
@@ -89,7 +89,7 @@ unfolding callsIn
 calls-in tape = calls-counted (readAll tape .records)
 
 pub claims : (tape : List ℕ) → Claims tape
-unfolding answersIn
+unfolding answersIn perStore drillSettings
 claims tape =
     let d = tape-demand3 (callsIn tape) in
     record {

@@ -18,7 +18,7 @@ use Rattle.reading.specs.Reading.{andMore, readOn, readFrom, readAll, accessOf,
 use Rattle.coherence.specs.Bytes.{blockAt, putBlock, wordAt, putWord}
 use Rattle.coherence.specs.Settings.{isThrough, through, drillSettings}
 use Rattle.coherence.specs.Slots.{place, slotAt, setSlot, holds, modified, ownerOf, allBelow, fits, alone, slotRule, kindRule, soundSlots, soundKinds, sound, coldDirectory}
-use Rattle.coherence.specs.Access.{ready, give, mark, writeBack, copyback, emptied, empty, yield, ask, fill, fetch, eachUnit, expel, claim, cachePlace, write, load, own, store, flush}
+use Rattle.coherence.specs.Access.{ready, give, mark, writeBack, copyback, emptied, empty, yield, reads, stolen, asked, ask, fill, fetch, eachUnit, expel, claim, cachePlace, write, load, own, store, flush}
 use Rattle.coherence.specs.Refusal.{sized, isUnit, isAddress, isBlock, sizeTest, directoryTest, unitTest, targetTest, callRefusal, startRefusal}
 use Rattle.coherence.specs.Calls.{unitOf, isTarget, refusal, act, loaded, after, valueOf, packed, answer, memoryAfter, cacheAfter, startAnswer, cacheStarted, answers, answersCold}
 use Rattle.coherence.specs.Demand3.{ordersIn, ordersGiven}
@@ -41,7 +41,7 @@ unfolding
     andMore readOn readFrom readAll accessOf andCalls callsOf
     blockAt putBlock wordAt putWord place slotAt setSlot holds modified ownerOf allBelow fits alone slotRule kindRule soundSlots soundKinds sound coldDirectory
     isThrough through drillSettings
-    ready give mark writeBack copyback emptied empty yield ask fill fetch eachUnit expel claim cachePlace write load own store flush
+    ready give mark writeBack copyback emptied empty yield reads stolen asked ask fill fetch eachUnit expel claim cachePlace write load own store flush
     sized isUnit isAddress isBlock sizeTest directoryTest unitTest targetTest callRefusal startRefusal
     unitOf isTarget refusal act loaded after valueOf packed answer memoryAfter cacheAfter startAnswer cacheStarted answers answersCold
     ordersIn ordersGiven field accessPart ordersPart callLine lines totalLine refusedLine zeroStore callsIn answersIn lastLine drillText printed exampleTape

@@ -11,6 +11,7 @@ use lib.Dec.{leb, eqb}
 use lib.ListN.{length, getD, take, drop, set, length-append}
 use lib.Seq.{take-suc-set, getD-set-same, getD-set-other}
 use borrow.Author.Tests.{eqb-true, eqb-false, leb-true, le-leb, lt-leb, ne-eqb}
+use Rattle.order.specs.Flag.{flag}
 use Rattle.coherence.specs.declared.Slot.the-variants.{Invalid, Shared, Modified}
 use Rattle.coherence.specs.declared.Entry.{Entry}
 use Rattle.coherence.specs.declared.Directory.{Directory}
@@ -19,7 +20,7 @@ use Rattle.slots.specs.Directory.{ofSlots}
 use Rattle.slots.proofs.OfSlots.{of-slot}
 use Rattle.crossing.proofs.Spaces.{put-behind}
 use Rattle.boards.specs.Boards.{setOf}
-use Rattle.layout.specs.Directory.{slotBytes, encoded, slotsPut, directoryPut, Paired, blockSpelled, slotSpelled, slotsSpelled}
+use Rattle.layout.specs.Directory.{directorySize, slotBytes, settingsBytes, encoded, slotsPut, directoryPut, Paired, blockSpelled, slotSpelled, slotsSpelled}
 
 pub length-slotBytes : (n : ℕ) (d : Directory) → length (slotBytes n d) ≡ 2 * n
 unfolding slotBytes
@@ -46,15 +47,16 @@ put-slot d o n h =
     ∙ ap (λ (k : ℕ). slotBytes (suc n) d ++ drop k o) next
     ∙ ap (λ (k : ℕ). slotBytes k d ++ drop (2 * (n + 1)) o) (sym (add-one n)))
 
--- the set behind them
-pub put-set : (d : Directory) (o : List ℕ) → 129 ≤ length o → set (slotsPut d o) 128 (setOf (d .settings)) ≡ directoryPut d o
-unfolding slotsPut directoryPut encoded
-put-set d o h =
-    rw (le-leb 129 (length o) h) (put-behind (slotBytes 64 d) o (setOf (d .settings) ∷ []) 128 (length-slotBytes 64 d) h)
+-- the settings behind them
+pub put-settings : (d : Directory) (o : List ℕ) → directorySize ≤ length o
+    → set (set (slotsPut d o) 128 (setOf (d .settings))) 129 (flag (d .settings .steal)) ≡ directoryPut d o
+unfolding slotsPut directoryPut encoded settingsBytes
+put-settings d o h =
+    rw (le-leb directorySize (length o) h) (put-behind (slotBytes 64 d) o (settingsBytes (d .settings)) 128 (length-slotBytes 64 d) h)
 
-pub put-none : (d : Directory) (o : List ℕ) → length o < 129 → slotsPut d o ≡ directoryPut d o
+pub put-none : (d : Directory) (o : List ℕ) → length o < directorySize → slotsPut d o ≡ directoryPut d o
 unfolding slotsPut directoryPut
-put-none d o h = rw (lt-leb 129 (length o) h) refl
+put-none d o h = rw (lt-leb directorySize (length o) h) refl
 
 pub take-slot : (l : List ℕ) (a : List Entry) (n : ℕ) → n < length a → take n a ≡ slotsSpelled n l
     → take (n + 1) (set a n (record { slot = slotSpelled (getD l (2 * n) 0) (getD l (2 * n + 1) 0) })) ≡ slotsSpelled (n + 1) l

@@ -6,14 +6,14 @@ use Rattle.coherence.specs.Slots.{stateNumber, slotAt, setSlot, blockOf, coldDi
 use Rattle.coherence.specs.Calls.{packed}
 use Rattle.coherence.specs.Settings.{isThrough, through}
 use Rattle.boards.specs.Boards.{weighed, setOf}
-use Rattle.layout.specs.Directory.{slotBytes, encoded, directoryPut, slotSpelled}
+use Rattle.layout.specs.Directory.{slotBytes, settingsBytes, encoded, directoryPut, slotSpelled}
 use Rattle.layout.specs.Answer.{orderNumbers, ordersNumbers, answerNumbers, answerPut}
-use Rattle.layout.specs.Examples.{boards, mixed, twoOrders, Examples}
+use Rattle.layout.specs.Examples.{chosen, mixed, twoOrders, Examples}
 
 pub examples : Examples
 unfolding
-    commandNumber flag slotAt setSlot blockOf coldDirectory packed stateNumber slotBytes encoded directoryPut slotSpelled
-    orderNumbers ordersNumbers answerNumbers answerPut boards mixed twoOrders
+    commandNumber flag slotAt setSlot blockOf coldDirectory packed stateNumber slotBytes settingsBytes encoded directoryPut slotSpelled
+    orderNumbers ordersNumbers answerNumbers answerPut chosen mixed twoOrders
     isThrough through weighed setOf
 examples =
     record {

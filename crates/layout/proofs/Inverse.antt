@@ -7,9 +7,10 @@ use Prim.Native.Nat.{ℕ, zero, suc, _+_, _*_, _≤_, _<_}
 use native.Mathlib.Omega.{arith}
 use native.Mathlib.Nat.{le-of-suc-le-suc, eq-or-lt-of-le, not-suc-le-zero}
 use lib.Dec.{leb, eqb}
-use lib.ListN.{length, getD, take, replicate, length-append, List·getD-append}
-use lib.Seq.{take-suc, take-all, getD-append-add}
-use borrow.Author.Tests.{eqb-true, leb-true, le-leb}
+use lib.ListN.{length, getD, take, drop, replicate, length-append, List·getD-append}
+use lib.Seq.{take-suc, take-all, drop-at, getD-append-add}
+use borrow.Author.Tests.{eqb-true, eqb-false, leb-true, le-leb}
+use Rattle.order.specs.Flag.{flag}
 use Rattle.coherence.specs.declared.Slot.{Slot}
 use Rattle.coherence.specs.declared.Slot.the-variants.{Invalid, Shared, Modified}
 use Rattle.coherence.specs.declared.Entry.{Entry}
@@ -17,7 +18,7 @@ use Rattle.coherence.specs.declared.Directory.{Directory}
 use Rattle.coherence.specs.Slots.{stateNumber, emptyEntry, slotAt, blockOf, fits, slotRule, soundSlots, soundKinds, sound}
 use Rattle.coherence.proofs.Below.{both, below-at}
 use Rattle.boards.specs.Boards.{settingsOf, setOf}
-use Rattle.layout.specs.Directory.{slotBytes, encoded, noSlot, slotSpelled, slotsSpelled, setIn, decoded, Inverse}
+use Rattle.layout.specs.Directory.{directorySize, slotBytes, settingsBytes, encoded, noSlot, slotSpelled, slotsSpelled, setIn, stealIn, spellsSlots, decoded, Inverse}
 use Rattle.boards.proofs.BoardLaws.{sets, set-small}
 use Rattle.layout.proofs.DirectoryLaws.{length-slotBytes}
 
@@ -59,7 +60,7 @@ byte-in : (d : Directory) (i : ℕ) → i < 64
 unfolding encoded
 byte-in d i h =
     let xs : List ℕ = slotBytes 64 d in
-    let ys : List ℕ = setOf (d .settings) ∷ [] in
+    let ys : List ℕ = settingsBytes (d .settings) in
     let l : length xs ≡ 128 = length-slotBytes 64 d in
     let b = byte-of d 64 i h in
     (List·getD-append xs ys 0 (2 * i) (omega arith) ∙ b .0, List·getD-append xs ys 0 (2 * i + 1) (omega arith) ∙ b .1)
@@ -73,21 +74,29 @@ slots-back d (suc n) e h =
     rw (slots-back d n e (omega arith), b .0, b .1, slot-back (slotAt d n))
     (sym (take-suc (d .slots) n emptyEntry (omega arith)))
 
-pub length-encoded : (d : Directory) → length (encoded d) ≡ 129
-unfolding encoded
-length-encoded d = length-append (slotBytes 64 d) (setOf (d .settings) ∷ []) ∙ ap (λ (k : ℕ). k + 1) (length-slotBytes 64 d)
+pub length-encoded : (d : Directory) → length (encoded d) ≡ directorySize
+unfolding encoded settingsBytes
+length-encoded d = length-append (slotBytes 64 d) (settingsBytes (d .settings)) ∙ ap (λ (k : ℕ). k + 2) (length-slotBytes 64 d)
 
-set-back : (d : Directory) → setIn (encoded d) ≡ setOf (d .settings)
-unfolding setIn encoded
-set-back d =
+settings-back : (d : Directory) → (setIn (encoded d) ≡ setOf (d .settings)) × (stealIn (encoded d) ≡ flag (d .settings .steal))
+unfolding setIn stealIn encoded settingsBytes
+settings-back d =
     let l : length (slotBytes 64 d) ≡ 128 = length-slotBytes 64 d in
-    getD-last (slotBytes 64 d) (setOf (d .settings) ∷ []) 128 0 0 (omega arith)
+    let ys : List ℕ = settingsBytes (d .settings) in
+    (getD-last (slotBytes 64 d) ys 128 0 0 (omega arith), getD-last (slotBytes 64 d) ys 129 1 0 (omega arith))
+
+flag-back : (t : Bool) → (leb (flag t) 1 ≡ true) × (eqb (flag t) 1 ≡ t)
+unfolding flag
+flag-back true = (refl, refl)
+flag-back false = (refl, refl)
 
 back : (d : Directory) → length (d .slots) ≡ 64 → length (d .settings .boards) ≡ 4 → decoded (encoded d) ≡ d
-unfolding decoded
+unfolding decoded spellsSlots
 back d e f =
-    let l : length (encoded d) ≡ 129 = length-encoded d in
-    rw (l, set-back d, le-leb (setOf (d .settings)) 15 (set-small (d .settings)), slots-back d 64 e (omega arith), take-all 64 (d .slots) (omega arith), sets .back (d .settings) f)
+    let l : length (encoded d) ≡ directorySize = length-encoded d in
+    let g = settings-back d in
+    let h = flag-back (d .settings .steal) in
+    rw (l, g .0, g .1, le-leb (setOf (d .settings)) 15 (set-small (d .settings)), h .0, h .1, slots-back d 64 e (omega arith), take-all 64 (d .slots) (omega arith), sets .back (d .settings) f)
 
 -- ---- bytes that spell a directory
 
@@ -98,7 +107,7 @@ length-slots (suc n) l = length-append (slotsSpelled n l) _ ∙ ap (λ (k : ℕ)
 
 pub length-decoded : (l : List ℕ) → length (decoded l .slots) ≡ 64
 unfolding decoded
-length-decoded l = go (eqb (length l) 129 && leb (setIn l) 15)
+length-decoded l = go (spellsSlots l)
   where
     go : (t : Bool) → length (cond t (slotsSpelled 64 l) (replicate 64 (record { slot = noSlot }))) ≡ 64
     go true = length-slots 64 l
@@ -136,11 +145,7 @@ pub boards-decoded : (l : List ℕ) → length (decoded l .settings .boards) ≡
 unfolding decoded settingsOf
 boards-decoded l = refl
 
--- the bytes spell slots
-abbrev Spells : List ℕ → Bool
-Spells l = eqb (length l) 129 && leb (setIn l) 15
-
-slot-at : (l : List ℕ) (i : ℕ) → Spells l ≡ true → i < 64
+slot-at : (l : List ℕ) (i : ℕ) → spellsSlots l ≡ true → i < 64
     → slotAt (decoded l) i ≡ slotSpelled (getD l (2 * i) 0) (getD l (2 * i + 1) 0)
 unfolding slotAt decoded
 slot-at l i e h = rw e (ap (λ (x : Entry). x .slot) (slot-of l 64 i h))
@@ -150,7 +155,17 @@ rule-at : (d : Directory) (i : ℕ) → sound d ≡ true → i < 64 → slotRule
 unfolding sound soundSlots
 rule-at d i t h = below-at (λ n. slotRule d n (slotAt d n)) 64 i (both (soundSlots d) (soundKinds d) t .0) h
 
-bytes-forth : (l : List ℕ) (n : ℕ) → length l ≡ 129 → Spells l ≡ true → sound (decoded l) ≡ true → n ≤ 64 → slotBytes n (decoded l) ≡ take (2 * n) l
+-- two bytes more
+take-two : (l : List ℕ) (n : ℕ) → n + 2 ≤ length l → take n l ++ (getD l n 0 ∷ getD l (n + 1) 0 ∷ []) ≡ take (n + 2) l
+take-two l n h =
+    let k : n + 2 ≡ suc (suc n) = omega arith in
+    let k₁ : n + 1 ≡ suc n = omega arith in
+    rw (k, k₁)
+    (sym (take-suc l (suc n) 0 (omega arith)
+    ∙ ap (λ (x : List ℕ). x ++ (getD l (suc n) 0 ∷ [])) (take-suc l n 0 (omega arith))
+    ∙ append-assoc (take n l) (getD l n 0 ∷ []) (getD l (suc n) 0 ∷ [])))
+
+bytes-forth : (l : List ℕ) (n : ℕ) → length l ≡ directorySize → spellsSlots l ≡ true → sound (decoded l) ≡ true → n ≤ 64 → slotBytes n (decoded l) ≡ take (2 * n) l
 unfolding slotBytes
 bytes-forth l zero e g t h = refl
 bytes-forth l (suc n) e g t h =
@@ -158,15 +173,10 @@ bytes-forth l (suc n) e g t h =
     let s : slotAt (decoded l) n ≡ slotSpelled (getD l (2 * n) 0) (getD l (2 * n + 1) 0) = slot-at l n g i in
     let p : (stateNumber (slotAt (decoded l) n) ≡ getD l (2 * n) 0) × (blockOf (slotAt (decoded l) n) ≡ getD l (2 * n + 1) 0) =
     rw s (pair-forth (decoded l) n (getD l (2 * n) 0) (getD l (2 * n + 1) 0) (rw s at (rule-at (decoded l) n t i))) in
-    let k : 2 * suc n ≡ suc (suc (2 * n)) = omega arith in
-    let k₁ : suc (2 * n) ≡ 2 * n + 1 = omega arith in
-    rw (p .0, p .1, bytes-forth l n e g t (omega arith), k)
-    (sym (take-suc l (suc (2 * n)) 0 (omega arith)
-    ∙ ap (λ (x : List ℕ). x ++ (getD l (suc (2 * n)) 0 ∷ [])) (take-suc l (2 * n) 0 (omega arith))
-    ∙ append-assoc (take (2 * n) l) (getD l (2 * n) 0 ∷ []) (getD l (suc (2 * n)) 0 ∷ [])
-    ∙ ap (λ (j : ℕ). take (2 * n) l ++ (getD l (2 * n) 0 ∷ getD l j 0 ∷ [])) k₁))
+    let k : 2 * suc n ≡ 2 * n + 2 = omega arith in
+    rw (p .0, p .1, bytes-forth l n e g t (omega arith), k) (take-two l (2 * n) (omega arith))
 
-no-slots : (l : List ℕ) → Spells l ≡ false → slotAt (decoded l) 0 ≡ noSlot
+no-slots : (l : List ℕ) → spellsSlots l ≡ false → slotAt (decoded l) 0 ≡ noSlot
 unfolding slotAt decoded
 no-slots l e = rw e
 
@@ -174,24 +184,38 @@ broken : (d : Directory) → slotRule d 0 noSlot ≡ true → ⊥
 unfolding slotRule fits
 broken d e = false≢true e
 
-set-forth : (l : List ℕ) → setIn l ≤ 15 → setOf (decoded l .settings) ≡ getD l 128 0
-unfolding decoded setIn
-set-forth l h = sets .forth (setIn l) h
+flag-forth : (n : ℕ) → n ≤ 1 → flag (eqb n 1) ≡ n
+unfolding flag
+flag-forth n h = go (eqb n 1) refl
+  where
+    go : (t : Bool) → eqb n 1 ≡ t → flag t ≡ n
+    go true e = sym (eqb-true n 1 e)
+    go false e = let q : n ≡ 1 → ⊥ = eqb-false n 1 e in let z : 0 ≡ n = omega arith in z
+
+settings-forth : (l : List ℕ) → setIn l ≤ 15 → stealIn l ≤ 1 → settingsBytes (decoded l .settings) ≡ getD l 128 0 ∷ getD l 129 0 ∷ []
+unfolding settingsBytes decoded setIn stealIn
+settings-forth l h g =
+    let f = sets .forth (setIn l) (eqb (stealIn l) 1) h in
+    rw (f .0, f .1, flag-forth (stealIn l) g)
 
 forth : (l : List ℕ) → sound (decoded l) ≡ true → encoded (decoded l) ≡ l
-unfolding encoded
-forth l t = go (Spells l) refl
+unfolding encoded spellsSlots
+forth l t = go (spellsSlots l) refl
   where
-    go : (p : Bool) → Spells l ≡ p → slotBytes 64 (decoded l) ++ (setOf (decoded l .settings) ∷ []) ≡ l
+    go : (p : Bool) → spellsSlots l ≡ p → slotBytes 64 (decoded l) ++ settingsBytes (decoded l .settings) ≡ l
     go true e =
-        let q = both (eqb (length l) 129) (leb (setIn l) 15) e in
-        let n : length l ≡ 129 = eqb-true (length l) 129 (q .0) in
-        rw (bytes-forth l 64 n e t (omega arith), set-forth l (leb-true (setIn l) 15 (q .1))) (sym (take-suc l 128 0 (omega arith)) ∙ take-all 129 l (omega arith))
+        let q = both (eqb (length l) directorySize && leb (setIn l) 15) (leb (stealIn l) 1) e in
+        let r = both (eqb (length l) directorySize) (leb (setIn l) 15) (q .0) in
+        let n : length l ≡ directorySize = eqb-true (length l) directorySize (r .0) in
+        rw (bytes-forth l 64 n e t (omega arith), settings-forth l (leb-true (setIn l) 15 (r .1)) (leb-true (stealIn l) 1 (q .1)))
+        (take-two l 128 (omega arith) ∙ take-all directorySize l (omega arith))
     go false e = absurd (broken (decoded l) (rw (no-slots l e) at (rule-at (decoded l) 0 t (omega arith))))
 
--- the set that sound bytes spell is the one they have
-pub set-kept : (l : List ℕ) → sound (decoded l) ≡ true → setOf (decoded l .settings) ≡ setIn l
-set-kept l t = sym (set-back (decoded l)) ∙ ap setIn (forth l t)
+-- what stands behind the slots in sound bytes are the settings that they spell
+pub settings-kept : (l : List ℕ) → sound (decoded l) ≡ true → drop 128 l ≡ settingsBytes (decoded l .settings)
+unfolding encoded
+settings-kept l t =
+    ap (drop 128) (sym (forth l t)) ∙ drop-at (slotBytes 64 (decoded l)) (settingsBytes (decoded l .settings)) 128 (length-slotBytes 64 (decoded l))
 
 pub inverse : Inverse
 inverse = record { back = back; forth = forth }

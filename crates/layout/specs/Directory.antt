@@ -1,29 +1,35 @@
 -- The directory as a caller lends it: two bytes for each slot, slot n at 2 n, its state and its block; then the set of the units that have a write-through
--- board.
+-- board; then 1 with steal on, else 0.
 use Prim.Native.Nat.{ℕ, zero, suc, _+_, _*_, _/_, _%_, _<_}
 use mathlib.Core.Path.{_≡_}
-use mathlib.Core.Bool.{true, cond, not, _&&_}
+use mathlib.Core.Bool.{Bool, true, cond, not, _&&_}
 use mathlib.Core.List.{List, [], _∷_, _++_}
 use lib.ListN.{length, getD, drop, replicate}
 use lib.Dec.{leb, eqb}
+use Rattle.order.specs.Flag.{flag}
 use Rattle.coherence.specs.declared.Slot.{Slot}
 use Rattle.coherence.specs.declared.Slot.the-variants.{Invalid, Shared, Modified}
 use Rattle.coherence.specs.declared.Entry.{Entry}
+use Rattle.coherence.specs.declared.Settings.{Settings}
 use Rattle.coherence.specs.declared.Directory.{Directory}
 use Rattle.coherence.specs.Slots.{stateNumber, blockOf, slotAt, sound}
 use Rattle.boards.specs.Boards.{allUnits, settingsOf, setOf}
 
 -- the bytes of a directory
 abbrev pub directorySize : ℕ
-directorySize = 129
+directorySize = 130
 
 -- the bytes of the first n slots
 unfoldable pub slotBytes : ℕ → Directory → List ℕ
 slotBytes zero d = []
 slotBytes (suc n) d = slotBytes n d ++ (stateNumber (slotAt d n) ∷ blockOf (slotAt d n) ∷ [])
 
+-- the bytes of the settings
+unfoldable pub settingsBytes : Settings → List ℕ
+settingsBytes g = setOf g ∷ flag (g .steal) ∷ []
+
 unfoldable pub encoded : Directory → List ℕ
-encoded d = slotBytes 64 d ++ (setOf (d .settings) ∷ [])
+encoded d = slotBytes 64 d ++ settingsBytes (d .settings)
 
 -- the slots' bytes put into the first places of a lent space; it stays if it is too small for a directory
 unfoldable pub slotsPut : Directory → List ℕ → List ℕ
@@ -60,13 +66,19 @@ slotsSpelled (suc n) l = slotsSpelled n l ++ (record { slot = slotSpelled (getD 
 unfoldable pub setIn : List ℕ → ℕ
 setIn l = getD l 128 0
 
--- bytes of any other count, or with a set above 15, spell no slot at all
+-- steal's byte
+unfoldable pub stealIn : List ℕ → ℕ
+stealIn l = getD l 129 0
+
+-- bytes of any other count, with a set above 15 or with steal above 1, spell no slot at all
+unfoldable pub spellsSlots : List ℕ → Bool
+spellsSlots l = eqb (length l) directorySize && leb (setIn l) allUnits && leb (stealIn l) 1
+
 unfoldable pub decoded : List ℕ → Directory
 decoded l =
     record {
-      slots =
-          cond (eqb (length l) directorySize && leb (setIn l) allUnits) (slotsSpelled 64 l) (replicate 64 (record { slot = noSlot }));
-      settings = settingsOf (setIn l);
+      slots = cond (spellsSlots l) (slotsSpelled 64 l) (replicate 64 (record { slot = noSlot }));
+      settings = settingsOf (setIn l) (eqb (stealIn l) 1);
     }
 
 -- the bytes and the directory determine each other

@@ -14,13 +14,13 @@ use Rattle.coherence.specs.Calls.{packed}
 use Rattle.layout.specs.Directory.{encoded, directoryPut, slotSpelled, noSlot}
 use Rattle.layout.specs.Answer.{answerNumbers, answerPut}
 
--- unit 0 and unit 2 have write-through boards
-unfoldable pub boards : Settings
-boards = record { boards = throughBoard ∷ copybackBoard ∷ throughBoard ∷ copybackBoard ∷ [] }
+-- unit 0 and unit 2 have write-through boards, and steal is on
+unfoldable pub chosen : Settings
+chosen = record { boards = throughBoard ∷ copybackBoard ∷ throughBoard ∷ copybackBoard ∷ []; steal = true }
 
 -- slot 1 of unit 0 is SU with block 33, slot 15 of unit 3 EM with block 47
 unfoldable pub mixed : Directory
-mixed = setSlot (setSlot (coldDirectory boards) 1 (Shared 33)) 63 (Modified 47)
+mixed = setSlot (setSlot (coldDirectory chosen) 1 (Shared 33)) 63 (Modified 47)
 
 unfoldable pub twoOrders : Answer
 twoOrders =
@@ -30,19 +30,19 @@ twoOrders =
       orders =
           packed
           (record { unit = 1; command = Copyback; block = 33; retried = false } ∷ record { unit = 2; command = ModifiedRead; block = 47; retried = true } ∷ []);
-      directory = coldDirectory boards;
+      directory = coldDirectory chosen;
     }
 
 pub record Examples : Type 0 where
   -- "slot s of unit u at 2 (16 u + s): its state, then its block (0 if it is invalid)"
-  -- and then the set of the units that have a write-through board, "unit 0 having weight 1, unit 3 weight 8"
-  pub directory : encoded mixed ≡ (0 ∷ 0 ∷ 1 ∷ 33 ∷ []) ++ replicate 122 0 ++ (2 ∷ 47 ∷ 5 ∷ [])
+  -- and then the set of the units that have a write-through board, "unit 0 having weight 1, unit 3 weight 8", and 1 with steal on
+  pub directory : encoded mixed ≡ (0 ∷ 0 ∷ 1 ∷ 33 ∷ []) ++ replicate 122 0 ++ (2 ∷ 47 ∷ 5 ∷ 1 ∷ [])
   -- what is no slot: an invalid slot with a block, a state above 2
   pub noSlots : (slotSpelled 0 5 ≡ noSlot) × (slotSpelled 3 0 ≡ noSlot)
   -- "the loaded value, how many orders were given, and four orders: unit, command, block, retried"
   pub answer : answerNumbers twoOrders ≡ 77 ∷ 2 ∷ 1 ∷ 3 ∷ 33 ∷ 0 ∷ 2 ∷ 1 ∷ 47 ∷ 1 ∷ replicate 8 0
   -- what lies behind stays, and so does a space that is too small
-  pub directoryBehind : directoryPut mixed (replicate 131 9) ≡ encoded mixed ++ (9 ∷ 9 ∷ [])
-  pub directoryShort : directoryPut mixed (replicate 128 9) ≡ replicate 128 9
+  pub directoryBehind : directoryPut mixed (replicate 132 9) ≡ encoded mixed ++ (9 ∷ 9 ∷ [])
+  pub directoryShort : directoryPut mixed (replicate 129 9) ≡ replicate 129 9
   pub answerBehind : answerPut twoOrders (replicate 19 9) ≡ answerNumbers twoOrders ++ (9 ∷ [])
   pub answerShort : answerPut twoOrders (replicate 17 9) ≡ replicate 17 9

@@ -1,14 +1,16 @@
-// The directory as bytes that a caller lends: slot n at 2 n, its state (0 I, 1 SU, 2 EM) and its block; at 128 the set of write-through boards.
+// The directory as bytes that a caller lends: slot n at 2 n, its state (0 I, 1 SU, 2 EM) and its block; at 128 the set of write-through boards; at
+// 129 steal, 0 or 1.
 use boards::set_of;
 use boards::settings_of;
 use coherence::Directory;
 use coherence::Entry;
 use coherence::Slot;
+use order::flag_number;
 ghost use mathlib.Core.Path.{_≡_};
 ghost use Prim.Native.Nat.{_/_, _%_};
-ghost use lib.ListN.{length};
+ghost use lib.ListN.{length, getD};
 ghost use Rattle.coherence.specs.Slots.{stateNumber, blockOf};
-ghost use Rattle.layout.specs.Directory.{Paired, blockSpelled, slotSpelled, setIn, decoded, slotsPut, directoryPut};
+ghost use Rattle.layout.specs.Directory.{Paired, blockSpelled, slotSpelled, decoded, slotsPut, directoryPut};
 
 // A block that no slot may have.
 const NO_BLOCK: u8 = 255;
@@ -42,7 +44,7 @@ fn pair(state: u8, block: u8) -> u16
 
 // The 64 pairs of bytes, each as one number. The compiler then reads and compares eight of them at a time.
 fn pairs(bytes: &[u8]) -> [u16; 64]
-    requires { ⌜ length (now bytes) ≡ 129 ⌝ }
+    requires { ⌜ length (now bytes) ≡ 130 ⌝ }
     ensures { λ r. ⌜ (length r ≡ 64) × Paired (now (bytes .entry)) 64 r ⌝ }
 {
     let mut words = [0u16; 64];
@@ -83,22 +85,24 @@ fn slot_spelled(x: u16) -> Slot
     }
 }
 
-fn set_in(bytes: &[u8]) -> u8
-    ensures { λ r. ⌜ r ≡ setIn (now (bytes .entry)) ⌝ }
+// The byte at a place, 0 past the end.
+fn byte_at(bytes: &[u8], place: usize) -> u8
+    ensures { λ r. ⌜ r ≡ getD (now (bytes .entry)) place 0 ⌝ }
 {
-    if 128 < bytes.len() { bytes[128] } else { 0 }
+    if place < bytes.len() { bytes[place] } else { 0 }
 }
 
 // The directory that the bytes spell. What spells none becomes one that breaks the rules.
 pub fn decode(bytes: &[u8]) -> Directory
     ensures { λ r. ⌜ r ≡ decoded (now (bytes .entry)) ⌝ }
 {
-    let set = set_in(bytes);
-    let settings = settings_of(set);
+    let set = byte_at(bytes, 128);
+    let steal = byte_at(bytes, 129);
+    let settings = settings_of(set, steal == 1);
     let mut slots = [Entry {
         slot: Slot::Shared(NO_BLOCK),
     }; 64];
-    if (bytes.len() == 129) & (set <= 15) {
+    if (bytes.len() == 130) & (set <= 15) & (steal <= 1) {
         let words = pairs(bytes);
         let mut n = 0;
         while n < 64 {
@@ -114,7 +118,7 @@ pub fn decode(bytes: &[u8]) -> Directory
 pub fn encode_slots(d: Directory, out: &mut [u8])
     ensures { λ _. ⌜ now (out .exit) ≡ slotsPut d (now (out .entry)) ⌝ }
 {
-    if out.len() < 129 {
+    if out.len() < 130 {
         return;
     }
     let slots = d.slots;
@@ -128,13 +132,14 @@ pub fn encode_slots(d: Directory, out: &mut [u8])
     }
 }
 
-// The bytes of a directory, into the first 129 of the lent space. It stays if it is too small.
+// The bytes of a directory, into the first 130 of the lent space. It stays if it is too small.
 pub fn encode(d: Directory, out: &mut [u8])
     ensures { λ _. ⌜ now (out .exit) ≡ directoryPut d (now (out .entry)) ⌝ }
 {
     encode_slots(d, out);
-    if 129 <= out.len() {
+    if 130 <= out.len() {
         let settings = d.settings;
         out[128] = set_of(settings);
+        out[129] = flag_number(settings.steal) as u8;
     }
 }

@@ -1,8 +1,8 @@
 -- What a call knows once no test has refused it.
 use mathlib.Core.Path.{_≡_, refl}
-use mathlib.Core.Bool.{Bool, true, false, cond}
+use mathlib.Core.Bool.{Bool, true}
 use mathlib.Core.List.{List}
-use Prim.Native.Nat.{ℕ, _+_, _-_, _*_, _%_, _<_, _≤_}
+use Prim.Native.Nat.{ℕ, _%_, _<_, _≤_}
 use native.Mathlib.Omega.{arith}
 use lib.ListN.{length}
 use lib.Dec.{eqb, leb}
@@ -11,9 +11,9 @@ use Rattle.coherence.specs.declared.Directory.{Directory}
 use Rattle.coherence.specs.declared.Slot.{Slot}
 use Rattle.coherence.specs.declared.Slot.the-variants.{Invalid, Shared, Modified}
 use Rattle.coherence.specs.Slots.{sound, place, slotAt, blockOf}
-use Rattle.coherence.specs.Refusal.{sized, isUnit, isAddress, isBlock, callRefusal, peekRefusal}
+use Rattle.coherence.specs.Refusal.{sized, isUnit, isAddress, callRefusal}
 use Rattle.coherence.proofs.Below.{both}
-use Rattle.coherence.proofs.RefusalLaws.{call-tests, peek-tests, sized-say}
+use Rattle.coherence.proofs.RefusalLaws.{call-tests, all-pass, sized-say}
 use Rattle.coherence.proofs.SlotLaws.{place-lt, shared-holds, modified-holds}
 use Rattle.coherence.proofs.Rules.{sound-placed}
 
@@ -22,24 +22,12 @@ pub record Sized (m k : List ℕ) : Type 0 where
   pub memory : length m ≡ 2048
   pub cache : length k ≡ 2048
 
-all-pass : (a b c d : Bool) → _≡_ {A = ℕ} (cond a (cond b (cond c (cond d 0 4) 3) 2) 1) 0
-    → (a ≡ true) × (b ≡ true) × (c ≡ true) × (d ≡ true)
-all-pass true true true true e = (refl, refl, refl, refl)
-all-pass true true true false e = absurd (omega arith)
-all-pass true true false d e = absurd (omega arith)
-all-pass true false c d e = absurd (omega arith)
-all-pass false b c d e = absurd (omega arith)
-
 pub sizes-of : (m k : List ℕ) → sized m k ≡ true → Sized m k
 sizes-of m k e = let h = sized-say m k e in record { memory = h .0; cache = h .1 }
 
 pub address-of : (a : ℕ) → isAddress a ≡ true → (a % 4 ≡ 0) × (a ≤ 2044)
 unfolding isAddress
 address-of a e = let h = both (eqb (a % 4) 0) (leb a 2044) e in (eqb-true _ _ (h .0), leb-true _ _ (h .1))
-
-pub block-of : (b : ℕ) → isBlock b ≡ true → b ≤ 63
-unfolding isBlock
-block-of b e = leb-true _ _ e
 
 unit-of : (u : ℕ) → isUnit u ≡ true → u ≤ 3
 unfolding isUnit
@@ -72,12 +60,3 @@ known d m k u good e =
       target = p .3;
       block = λ b. slot-block d (place u b) (p .1) (place-lt u b h);
     }
-
-pub peek-known : (d : Directory) (m k : List ℕ) (b : ℕ) → peekRefusal d m k b ≡ 0 → Sized m k × (b ≤ 63)
-peek-known d m k b e =
-    let p = all-pass (sized m k) (sound d) true (isBlock b) (rw (peek-tests d m k b) at e) in
-    (sizes-of m k (p .0), block-of b (p .3))
-
--- as long as a block
-pub part-is : (n : ℕ) → 32 * n + 32 - 32 * n ≡ 32
-part-is n = omega arith

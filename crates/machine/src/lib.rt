@@ -1,13 +1,8 @@
-// The cache machine: cold start, loads, stores and flushes, and peek. Each call tests its inputs, and answers and leaves what the
+// The cache machine: cold start, loads, stores and flushes. Each call tests its inputs, and answers and leaves what the
 // definitions of `coherence` say, for every input. A call takes slots and settings apart, and its answer puts them together.
 ghost use mathlib.Core.Path.{_≡_};
-ghost use mathlib.Core.Bool.{cond};
-ghost use Prim.Native.Nat.{_+_};
-ghost use denote.Ref.{ptr};
 ghost use Rattle.coherence.specs.declared.Call.the-variants.{Load, Store, Flush};
 ghost use Rattle.coherence.specs.Calls.{answer, memoryAfter, cacheAfter, startAnswer, cacheStarted};
-ghost use Rattle.coherence.specs.Refusal.{peekRefusal};
-ghost use Rattle.coherence.specs.Peek.{peeked, peekFromCache, peekOffset};
 use blocks::clear;
 use blocks::evict_bytes;
 use blocks::fetch_bytes;
@@ -19,8 +14,6 @@ use coherence::Directory;
 use coherence::Settings;
 use coherence::Slot;
 use coherence::Start;
-use order::BAD_ADDRESS;
-use order::BROKEN_DIRECTORY;
 use order::Command;
 use order::WRONG_SIZE;
 use orders::accepted;
@@ -43,7 +36,6 @@ use slots::owner;
 use slots::place_of;
 use slots::set_slot;
 use slots::slot_at;
-use soundness::is_sound;
 use write_through::store_through;
 
 // All slots invalid, with the chosen settings, and the cache store all zeros. Refused, it leaves the cache store as it was.
@@ -93,7 +85,7 @@ pub fn load(
         let holder = owner(slots, block);
         fetch_bytes(slot, holder, memory, cache, n, block);
         let value = word_at(cache, at);
-        let orders = fetch_orders(slot, holder, unit, Command::Read, block);
+        let orders = fetch_orders(settings.steal, slot, holder, unit, Command::Read, block);
         let left = fetched(slots, n, holder, block);
         accepted(value, orders, left, settings)
     }
@@ -136,7 +128,14 @@ pub fn store(
         let holder = owner(slots, block);
         fetch_bytes(slot, holder, memory, cache, n, block);
         put_word(cache, at, value);
-        let orders = fetch_orders(slot, holder, unit, Command::ModifiedRead, block);
+        let orders = fetch_orders(
+            settings.steal,
+            slot,
+            holder,
+            unit,
+            Command::ModifiedRead,
+            block,
+        );
         let left = claimed(slots, unit, block);
         accepted(0, orders, left, settings)
     }
@@ -177,36 +176,5 @@ pub fn run(directory: Directory, memory: &mut [u8], cache: &mut [u8], call: Call
             value,
         } => store(directory, memory, cache, unit, address, value),
         Call::Flush { unit, block } => flush(directory, memory, cache, unit, block),
-    }
-}
-
-// The number of peek's refusal for the same inputs, 0 if there is none.
-pub fn peek_refusal(directory: Directory, memory: &[u8], cache: &[u8], block: u8) -> u8
-    ensures { λ r. ⌜ r ≡ peekRefusal directory (now (memory .entry)) (now (cache .entry)) block ⌝ }
-{
-    if !is_sized(memory, cache) {
-        return WRONG_SIZE;
-    }
-    if !is_sound(directory) {
-        return BROKEN_DIRECTORY;
-    }
-    if block <= 63 { 0 } else { BAD_ADDRESS }
-}
-
-// The newest bytes of the block, themselves: in the cache store where a unit has it EM, else in memory. An empty part of memory if refused.
-pub fn peek<'a>(directory: Directory, memory: &'a [u8], cache: &'a [u8], block: u8) -> &'a [u8]
-    ensures { λ r. ⌜ (now r ≡ peeked directory (now (memory .entry)) (now (cache .entry)) block) × (ptr r .0 ≡ cond (peekFromCache directory (now (memory .entry)) (now (cache .entry)) block) (ptr (cache .entry) .0) (ptr (memory .entry) .0)) × (ptr r .1 ≡ cond (peekFromCache directory (now (memory .entry)) (now (cache .entry)) block) (ptr (cache .entry) .1) (ptr (memory .entry) .1) + peekOffset directory (now (memory .entry)) (now (cache .entry)) block) ⌝ }
-{
-    if peek_refusal(directory, memory, cache, block) != 0 {
-        return &memory[0..0];
-    }
-    let slots = directory.slots;
-    let unit = owner(slots, block);
-    if unit < 4 {
-        let at = 32 * place_of(unit, block);
-        &cache[at..at + 32]
-    } else {
-        let at = 32 * (block as usize);
-        &memory[at..at + 32]
     }
 }

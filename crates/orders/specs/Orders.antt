@@ -25,13 +25,17 @@ evictionOrders u Invalid = []
 evictionOrders u (Shared b) = []
 evictionOrders u (Modified b) = order u Copyback b false ∷ []
 
+-- after a retry, the same order again, but where the block is stolen
+unfoldable pub again : Bool → ℕ → Command → ℕ → List Order
+again stolen u k b = cond stolen [] (order u k b false ∷ [])
+
 -- asking
-unfoldable pub askOrders : ℕ → Command → ℕ → ℕ → List Order
-askOrders u k b v = cond (ltb v 4) (order u k b true ∷ order v Copyback b false ∷ order u k b false ∷ []) (order u k b false ∷ [])
+unfoldable pub askOrders : Bool → ℕ → Command → ℕ → ℕ → List Order
+askOrders stolen u k b v = cond (ltb v 4) (order u k b true ∷ order v Copyback b false ∷ again stolen u k b) (order u k b false ∷ [])
 
 -- getting a block that is not held
-unfoldable pub fetchOrders : ℕ → Command → ℕ → Slot → ℕ → List Order
-fetchOrders u k b x v = evictionOrders u x ++ askOrders u k b v
+unfoldable pub fetchOrders : Bool → ℕ → Command → ℕ → Slot → ℕ → List Order
+fetchOrders stolen u k b x v = evictionOrders u x ++ askOrders stolen u k b v
 
 -- a directory by its parts
 abbrev pub directoryOf : List Entry → Settings → Directory

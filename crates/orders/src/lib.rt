@@ -63,9 +63,10 @@ pub fn eviction_orders(slot: Slot, unit: u8) -> Orders
     }
 }
 
-// The orders by which a unit asks for a block. Where `holder` is a unit, the order is retried, and the holder copies the block back.
-pub fn ask_orders(holder: u8, unit: u8, command: Command, block: u8) -> Orders
-    ensures { λ r. ⌜ r ≡ packed (askOrders unit command block holder) ⌝ }
+// The orders by which a unit asks for a block. Where `holder` is a unit, the order is retried, the holder copies the block back, and the order is given
+// again, but where the block is `stolen` during the copyback.
+pub fn ask_orders(stolen: bool, holder: u8, unit: u8, command: Command, block: u8) -> Orders
+    ensures { λ r. ⌜ r ≡ packed (askOrders stolen unit command block holder) ⌝ }
 {
     if holder < 4 {
         let none = no_order();
@@ -87,6 +88,12 @@ pub fn ask_orders(holder: u8, unit: u8, command: Command, block: u8) -> Orders
             block,
             retried: false,
         };
+        if stolen {
+            return Orders {
+                count: 2,
+                list: [retried, yielded, none, none],
+            };
+        }
         Orders {
             count: 3,
             list: [retried, yielded, given, none],
@@ -97,9 +104,17 @@ pub fn ask_orders(holder: u8, unit: u8, command: Command, block: u8) -> Orders
 }
 
 // The same after the copyback of the block `old`, which the unit's slot has EM.
-fn evict_and_ask_orders(old: u8, holder: u8, unit: u8, command: Command, block: u8) -> Orders
-    ensures { λ r. ⌜ r ≡ packed (order unit Copyback old false ∷ askOrders unit command block holder) ⌝ }
+fn evict_and_ask_orders(
+    stolen: bool,
+    old: u8,
+    holder: u8,
+    unit: u8,
+    command: Command,
+    block: u8,
+) -> Orders
+    ensures { λ r. ⌜ r ≡ packed (order unit Copyback old false ∷ askOrders stolen unit command block holder) ⌝ }
 {
+    let none = no_order();
     let evicted = Order {
         unit,
         command: Command::Copyback,
@@ -125,12 +140,17 @@ fn evict_and_ask_orders(old: u8, holder: u8, unit: u8, command: Command, block: 
             block,
             retried: false,
         };
+        if stolen {
+            return Orders {
+                count: 3,
+                list: [evicted, retried, yielded, none],
+            };
+        }
         Orders {
             count: 4,
             list: [evicted, retried, yielded, given],
         }
     } else {
-        let none = no_order();
         Orders {
             count: 2,
             list: [evicted, given, none, none],
@@ -139,13 +159,20 @@ fn evict_and_ask_orders(old: u8, holder: u8, unit: u8, command: Command, block: 
 }
 
 // The orders by which a unit gets a block that it does not hold, into a slot that is as given.
-pub fn fetch_orders(slot: Slot, holder: u8, unit: u8, command: Command, block: u8) -> Orders
-    ensures { λ r. ⌜ r ≡ packed (fetchOrders unit command block slot holder) ⌝ }
+pub fn fetch_orders(
+    stolen: bool,
+    slot: Slot,
+    holder: u8,
+    unit: u8,
+    command: Command,
+    block: u8,
+) -> Orders
+    ensures { λ r. ⌜ r ≡ packed (fetchOrders stolen unit command block slot holder) ⌝ }
 {
     match slot {
-        Slot::Invalid => ask_orders(holder, unit, command, block),
-        Slot::Shared(_) => ask_orders(holder, unit, command, block),
-        Slot::Modified(old) => evict_and_ask_orders(old, holder, unit, command, block),
+        Slot::Invalid => ask_orders(stolen, holder, unit, command, block),
+        Slot::Shared(_) => ask_orders(stolen, holder, unit, command, block),
+        Slot::Modified(old) => evict_and_ask_orders(stolen, old, holder, unit, command, block),
     }
 }
 

@@ -80,7 +80,7 @@ pub fn cold_directory(settings: Settings) -> Directory
     Directory { slots, settings }
 }
 
-// Four copyback boards.
+// Four copyback boards, and steal off.
 pub fn drill_settings() -> Settings
     ensures { λ r. ⌜ r ≡ drillSettings ⌝ }
 {
@@ -88,7 +88,10 @@ pub fn drill_settings() -> Settings
         kind: Kind::Copyback,
     };
     let boards = [board; 4];
-    Settings { boards }
+    Settings {
+        boards,
+        steal: false,
+    }
 }
 
 // Whether the unit has a write-through board.

@@ -24,11 +24,11 @@ fn filled(base: u8) -> [u8; 2049] {
 
 // The directory's bytes of a row: place and byte of each, from the seventh number on. The first comes last, so that numbers that are not given, 0, change
 // nothing.
-fn directory_of(v: [u64; 48]) -> [u8; 129] {
-    let mut directory = [0u8; 129];
+fn directory_of(v: [u64; 48]) -> [u8; 130] {
+    let mut directory = [0u8; 130];
     for k in 0..21 {
         let at = 46 - 2 * k;
-        let place = (v[at] % 129) as usize;
+        let place = (v[at] % 130) as usize;
         directory[place] = (v[at + 1] % 256) as u8;
     }
     directory
@@ -152,13 +152,14 @@ pub(crate) fn newest(given: Row) {
     show_all(&[refusal, store, offset]);
 }
 
-fn cold(directory: &mut [u8], memory: &[u8], cache: &mut [u8], write_through: u32) {
-    show(capi_machine::trainer_cold_start(memory, cache, write_through, directory) as u64);
+fn cold(directory: &mut [u8], memory: &[u8], cache: &mut [u8], write_through: u32, steal: u32) {
+    show(capi_machine::trainer_cold_start(memory, cache, write_through, steal, directory) as u64);
     changed(directory, 255);
     changed(cache, 128);
 }
 
-// The sizes of both stores, the set of write-through boards, three other numbers, the directory: what a cold start leaves of the directory, and what it changes in the cache store.
+// The sizes of both stores, the set of write-through boards, steal, two other numbers, the directory: what a cold start leaves of the directory, and what it
+// changes in the cache store.
 pub(crate) fn start(given: Row) {
     let n = given.small;
     let v = given.values;
@@ -167,5 +168,5 @@ pub(crate) fn start(given: Row) {
     let mut cache = filled(128);
     let m = (n[0] % 2050) as usize;
     let c = (n[1] % 2050) as usize;
-    cold(&mut directory, &memory[0..m], &mut cache[0..c], n[2]);
+    cold(&mut directory, &memory[0..m], &mut cache[0..c], n[2], n[3]);
 }

@@ -1,5 +1,6 @@
 // A store of a unit that has a write-through board, once no test has refused it.
 ghost use mathlib.Core.Path.{_≡_};
+ghost use mathlib.Core.Bool.{false};
 ghost use Rattle.order.specs.declared.Command.the-variants.{MemoryWrite};
 ghost use Rattle.coherence.specs.Slots.{ownerOf};
 ghost use Rattle.coherence.specs.Calls.{packed};
@@ -31,14 +32,14 @@ pub fn store_through(
     address: u32,
     value: u32,
 ) -> Answer
-    ensures { λ r. ⌜ (r ≡ answerOf 0 0 (packed (askOrders unit MemoryWrite block (ownerOf directory block))) (throughDirectory unit block directory)) × (now (memory .exit) ≡ throughMemory block address value directory (now (memory .entry)) (now (cache .entry))) × (now (cache .exit) ≡ throughCache unit block address value directory (now (cache .entry))) ⌝ }
+    ensures { λ r. ⌜ (r ≡ answerOf 0 0 (packed (askOrders false unit MemoryWrite block (ownerOf directory block))) (throughDirectory unit block directory)) × (now (memory .exit) ≡ throughMemory block address value directory (now (memory .entry)) (now (cache .entry))) × (now (cache .exit) ≡ throughCache unit block address value directory (now (cache .entry))) ⌝ }
 {
     let slots = directory.slots;
     let settings = directory.settings;
     let holder = owner(slots, block);
     yield_bytes(holder, memory, cache, block);
     put_word(memory, address, value);
-    let orders = ask_orders(holder, unit, Command::MemoryWrite, block);
+    let orders = ask_orders(false, holder, unit, Command::MemoryWrite, block);
     let left = expelled(yielded(slots, holder, block), unit, block);
     let held = holds_block(slot_at(left, place_of(unit, block)), block);
     put_word_if(held, cache, cache_place(unit, address), value);

@@ -1,8 +1,8 @@
 -- `orders::evict_and_ask_orders` meets its contract.
-use borrow.Author.Needs.{needs}
 use borrow.Author.Tests.{lt-ltb, le-ltb}
-use Rattle.orders.specs.Orders.{order, askOrders}
+use Rattle.orders.specs.Orders.{order, again, askOrders}
 use Rattle.coherence.specs.Calls.{packed}
+use borrow.Author.Needs.{needs}
 use Rattle.orders.proofs.evict_and_ask_orders.Statement.{statement}
 use Rattle.orders.proofs.evict_and_ask_orders.Tie as tie
 
@@ -10,12 +10,16 @@ no-order-requires : tie.Need-no-order-requires
 no-order-requires c κs = search needs
 
 returns : tie.Need-returns
-unfolding packed askOrders order
-returns c = rw (lt-ltb _ _ (c .if1 .taken))
+unfolding packed askOrders again order
+returns c = rw (lt-ltb _ _ (c .before .if1 .taken), c .if2 .taken, c .before .before .no-order .ensures)
 
 returns-2 : tie.Need-returns-2
+unfolding packed askOrders again order
+returns-2 c = rw (lt-ltb _ _ (c .before .if1 .taken), c .if2 .left)
+
+returns-3 : tie.Need-returns-3
 unfolding packed askOrders order
-returns-2 c = rw (le-ltb _ _ (c .before .if1 .left), c .no-order .ensures)
+returns-3 c = rw (le-ltb _ _ (c .if1 .left), c .before .no-order .ensures)
 
 pub evict-and-ask-orders-spec : {M : Type 1} → statement M
-evict-and-ask-orders-spec = tie.close (tie.spec no-order-requires returns returns-2)
+evict-and-ask-orders-spec = tie.close (tie.spec no-order-requires returns returns-2 returns-3)

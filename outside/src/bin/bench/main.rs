@@ -21,17 +21,17 @@ const ROUNDS: usize = 41;
 /// Directory, stores and the answer's space, as a caller holds them.
 #[derive(Clone, PartialEq, Debug)]
 struct Lent {
-    directory: [u8; 129],
+    directory: [u8; 130],
     memory: [u8; 2048],
     cache: [u8; 2048],
     answer: [u32; 18],
 }
 
 impl Lent {
-    /// A cold machine with this set of write-through units.
-    fn cold(write_through: u8) -> Lent {
-        let mut directory = [0; 129];
-        directory[128] = write_through;
+    /// A cold machine with this set of write-through units, and with steal on (1) or off (0).
+    fn cold(write_through: u8, steal: u8) -> Lent {
+        let mut directory = [0; 130];
+        directory[128..].copy_from_slice(&[write_through, steal]);
         Lent { directory, memory: [7; 2048], cache: [0; 2048], answer: [0; 18] }
     }
 }
@@ -98,17 +98,17 @@ fn row(name: &str, proved: f64, same: f64, place: Option<f64>) {
     println!("| {name} | {proved:.1} | {same:.1} | {:.2} {place}", proved / same);
 }
 
-/// A row of calls on a machine with copyback boards.
+/// A row of calls on a machine with copyback boards and steal off.
 fn calls_row(name: &str, prepare: &[Call], calls: &[Call]) {
-    mixed_row(name, 0, prepare, calls);
+    settings_row(name, (0, 0), prepare, calls);
 }
 
-/// A row of calls on a machine with this set of write-through units.
-fn mixed_row(name: &str, write_through: u8, prepare: &[Call], calls: &[Call]) {
+/// A row of calls on a machine with this set of write-through units and this steal.
+fn settings_row(name: &str, (write_through, steal): (u8, u8), prepare: &[Call], calls: &[Call]) {
     let repeat = 40_000 / calls.len();
     let sides = [Side::Proved, Side::Typed, Side::Packed];
     let mut state = sides.map(|side| {
-        let mut lent = Lent::cold(write_through);
+        let mut lent = Lent::cold(write_through, steal);
         run(side, &mut lent, prepare);
         lent
     });
@@ -522,7 +522,7 @@ fn mix_row(program: &str) {
                         )
                     }
                     _ => {
-                        let state = RefCell::new(([0u8; 129], [0u8; 2048], [0u8; 2048]));
+                        let state = RefCell::new(([0u8; 130], [0u8; 2048], [0u8; 2048]));
                         mix(
                             |u, a| {
                                 let (d, m, k) = &mut *state.borrow_mut();
@@ -569,7 +569,8 @@ fn main() {
         })
         .collect();
     calls_row("random loads and stores", &[], &mix);
-    mixed_row("random loads and stores, two write-through boards", 0b0101, &[], &mix);
+    settings_row("random loads and stores, two write-through boards", (0b0101, 0), &[], &mix);
+    settings_row("random loads and stores, steal on", (0, 1), &[], &mix);
     tape_rows();
     stamp_rows();
     message_rows();

@@ -1,10 +1,14 @@
 //! Plain Rust on the directory's bytes where they lie: nothing is decoded, and only the slots that change are written.
 use crate::typed::{clash, hand_over, misfit, Answer, Order};
 
-type Directory = [u8; 129];
+type Directory = [u8; 130];
 
 fn writes_through(d: &Directory, u: usize) -> bool {
     d[128] >> u & 1 == 1
+}
+
+fn steals(d: &Directory) -> bool {
+    d[129] == 1
 }
 
 /// A slot's two bytes as one number: the state below, the block above.
@@ -43,9 +47,9 @@ fn has_modified(d: &Directory, u: usize) -> bool {
     d[32 * u..32 * u + 32].chunks_exact(8).fold(0, |slots, bytes| slots | four(bytes)) & 0x0002_0002_0002_0002 != 0
 }
 
-/// The rules of the directory; `LENT` also tests that bytes from outside spell slots and kinds at all.
+/// The rules of the directory; `LENT` also tests that bytes from outside spell slots and settings at all.
 fn sound<const LENT: bool>(d: &Directory) -> bool {
-    let mut faults = (LENT && d[128] > 15) as u16;
+    let mut faults = (LENT && (d[128] > 15 || d[129] > 1)) as u16;
     let slots: [u16; 64] = std::array::from_fn(|n| slot(d, n));
     for s in 0..16usize {
         let (w, x, y, z) = (slots[s], slots[16 + s], slots[32 + s], slots[48 + s]);
@@ -101,13 +105,16 @@ fn copyback(memory: &mut [u8], cache: &[u8], u: usize, b: u8, a: &mut Answer) {
     push(a, u, 3, b, false);
 }
 
-/// The order, retried where another unit has the block EM.
+/// The order, retried where another unit has the block EM; a read or modified read that is retried is not given again with steal on.
 fn request(d: &mut Directory, memory: &mut [u8], cache: &[u8], u: usize, b: u8, command: u8, a: &mut Answer) {
     for v in 0..4 {
         if v != u && modified(d, v, b) {
             push(a, u, command, b, true);
             copyback(memory, cache, v, b, a);
             set(d, 16 * v + b as usize % 16, 1, b);
+            if steals(d) && command != 4 {
+                return;
+            }
             break;
         }
     }

@@ -1,4 +1,5 @@
-//! Plain Rust with the proved library's types: the directory's bytes become slots and kinds of boards, both enums, before a call and bytes again after it.
+//! Plain Rust with the proved library's types: before a call the directory's bytes become slots and kinds of boards, both enums, and steal, a bool; after it
+//! these become bytes again.
 //! The test of the directory is the branch-free one, which the compiler vectorises; for EM slots of write-through units it looks at those units alone.
 
 #[derive(Clone, Copy)]
@@ -20,12 +21,13 @@ pub enum Kind {
 pub struct Directory {
     slots: [Slot; 64],
     kinds: [Kind; 4],
+    steal: bool,
 }
 
 impl Directory {
-    /// All slots invalid, and copyback boards.
+    /// All slots invalid, copyback boards, and steal off.
     pub fn cold() -> Directory {
-        Directory { slots: [Invalid; 64], kinds: [Kind::Copyback; 4] }
+        Directory { slots: [Invalid; 64], kinds: [Kind::Copyback; 4], steal: false }
     }
 }
 
@@ -129,13 +131,16 @@ fn copyback(memory: &mut [u8], cache: &[u8], u: usize, b: u8, a: &mut Answer) {
     a.push(u, 3, b, false);
 }
 
-/// The order, retried where another unit has the block EM.
+/// The order, retried where another unit has the block EM; a read or modified read that is retried is not given again with steal on.
 fn request(d: &mut Directory, memory: &mut [u8], cache: &[u8], u: usize, b: u8, command: u8, a: &mut Answer) {
     for v in 0..4 {
         if v != u && modified(d, v, b) {
             a.push(u, command, b, true);
             copyback(memory, cache, v, b, a);
             d.slots[16 * v + b as usize % 16] = Shared(b);
+            if d.steal && command != 4 {
+                return;
+            }
             break;
         }
     }
@@ -246,9 +251,9 @@ pub fn tested_store(d: &mut Directory, memory: &mut [u8], cache: &mut [u8], unit
 
 /// Bytes that spell no directory become slots that no rule allows.
 fn decode(bytes: &[u8]) -> Directory {
-    let mut d = Directory { slots: [Shared(255); 64], kinds: [Kind::Copyback; 4] };
-    let Ok(bytes) = <&[u8; 129]>::try_from(bytes) else { return d };
-    if bytes[128] > 15 {
+    let mut d = Directory { slots: [Shared(255); 64], kinds: [Kind::Copyback; 4], steal: false };
+    let Ok(bytes) = <&[u8; 130]>::try_from(bytes) else { return d };
+    if bytes[128] > 15 || bytes[129] > 1 {
         return d;
     }
     for n in 0..64 {
@@ -264,11 +269,12 @@ fn decode(bytes: &[u8]) -> Directory {
         };
     }
     d.kinds = [0, 1, 2, 3].map(|u| if bytes[128] >> u & 1 == 1 { Kind::WriteThrough } else { Kind::Copyback });
+    d.steal = bytes[129] == 1;
     d
 }
 
 fn encode(d: &Directory, bytes: &mut [u8]) {
-    let bytes: &mut [u8; 129] = bytes.try_into().expect("a sound directory has 129 bytes");
+    let bytes: &mut [u8; 130] = bytes.try_into().expect("a sound directory has 130 bytes");
     for n in 0..64 {
         let (state, block) = match d.slots[n] {
             Invalid => (0, 0),
@@ -280,6 +286,7 @@ fn encode(d: &Directory, bytes: &mut [u8]) {
     }
     let [w, x, y, z] = d.kinds.map(|kind| (kind == Kind::WriteThrough) as u8);
     bytes[128] = w + 2 * x + 4 * y + 8 * z;
+    bytes[129] = d.steal as u8;
 }
 
 pub fn hand_over(a: &Answer, answer: &mut [u32]) {

@@ -1,12 +1,12 @@
--- `machine::peek_refusal` meets its contract.
+-- `peek::peek_refusal` meets its contract.
 use borrow.Author.Needs.{needs}
 use native.Mathlib.Omega.{arith}
 use mathlib.Core.Path.{_∙_, sym}
 use borrow.Author.Tests.{le-leb, lt-leb, not-true, not-false}
 use Rattle.coherence.specs.Refusal.{isBlock}
 use Rattle.coherence.proofs.RefusalLaws.{peek-tests}
-use Rattle.machine.proofs.peek_refusal.Statement.{statement}
-use Rattle.machine.proofs.peek_refusal.Tie as tie
+use Rattle.peek.proofs.peek_refusal.Statement.{statement}
+use Rattle.peek.proofs.peek_refusal.Tie as tie
 
 is-sized-requires : tie.Need-is-sized-requires
 is-sized-requires c κs = search needs

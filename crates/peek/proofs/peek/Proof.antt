@@ -1,4 +1,4 @@
--- `machine::peek` meets its contract.
+-- `peek::peek` meets its contract.
 use mathlib.Core.Path.{sym, ap, _∙_}
 use native.Mathlib.Omega.{arith}
 use Prim.Native.Nat.{ℕ, _<_, _≤_}
@@ -9,10 +9,10 @@ use Rattle.coherence.specs.Slots.{place, ownerOf}
 use Rattle.coherence.specs.Refusal.{peekRefusal}
 use Rattle.coherence.proofs.SlotLaws.{place-lt}
 use Rattle.slots.proofs.OfSlots.{of-owner}
-use Rattle.machine.proofs.Refusals.{peek-known, part-is}
+use Rattle.peek.proofs.PeekLaws.{peek-known, part-is}
 use borrow.Author.Needs.{needs}
-use Rattle.machine.proofs.peek.Statement.{statement}
-use Rattle.machine.proofs.peek.Tie as tie
+use Rattle.peek.proofs.peek.Statement.{statement}
+use Rattle.peek.proofs.peek.Tie as tie
 
 peek-refusal-requires : tie.Need-peek-refusal-requires
 peek-refusal-requires c κs = search needs
@@ -62,7 +62,7 @@ part-result-end-2 : tie.Need-part-result-end-2
 part-result-end-2 c =
     let l = rw (sym (c .place-of .ensures)) at (place-lt _ (c .before .before .before .before .before .before .before .before .args .block) (c .before .if2 .taken)) in
     let k = peek-known _ _ _ _ (sym (c .before .before .before .before .before .peek-refusal .ensures) ∙ c .before .before .before .before .if1 .left) in
-    omega (arith, l, k .0 .cache)
+    omega (arith, l, k .cache)
 
 mul-at-2 : tie.Need-mul-at-2
 mul-at-2 c = search needs
@@ -79,7 +79,7 @@ part-result-start-3 c = search needs
 part-result-end-3 : tie.Need-part-result-end-3
 part-result-end-3 c =
     let k = peek-known _ _ _ _ (sym (c .before .before .before .before .peek-refusal .ensures) ∙ c .before .before .before .if1 .left) in
-    omega (arith, k .0 .memory, k .1)
+    omega (arith, k .memory, k .block)
 
 returns-2 : tie.Need-returns-2
 unfolding peeked peekFromCache peekOffset newest newestBlock fromCache blockAt
