@@ -5,8 +5,10 @@ use mathlib.Core.Bool.{Bool, true, false, cond, false≢true}
 use mathlib.Core.Logic.{⊎-elim}
 use Prim.Native.Nat.{ℕ, _+_, _*_, _≤_, _<_}
 use native.Mathlib.Omega.{arith}
+use native.Mathlib.Nat.{mul-add}
 use lib.ListN.{length, replicate, length-replicate}
 use borrow.Author.Tests.{lt-ltb, le-ltb, le-leb, eq-eqb}
+use Rattle.coherence.specs.declared.Board.{Board}
 use Rattle.coherence.specs.declared.Settings.{Settings}
 use Rattle.coherence.specs.declared.Directory.{Directory}
 use Rattle.coherence.specs.declared.Call.{Call}
@@ -78,23 +80,30 @@ module _
     no-debt : debt (weightOf g) (s .directory) ≡ 0
     no-debt = rw (start-directory g m s (h .lent) (h .cleared) (h .started) (h .accepts)) (debt-cold (weightOf g) g)
 
--- the charges with that weight are one for a load and `perStore` for a store
-charges : (g : Settings) (cs : List Call) → acceptedOf (charge (weightOf g)) cs ≡ acceptedOf isLoad cs + perStore g * acceptedOf isStore cs
-unfolding acceptedOf perStore weightOf charge isLoad isStore
-charges g [] = omega arith
-charges g (c ∷ cs) = go (g .steal) (plainAccepts c) c (charges g cs)
+-- with that weight a store is charged what the bill has for it
+per-store : (g : Settings) → perStore g ≡ 1 + weightOf g
+unfolding perStore weightOf
+per-store g = go (g .boards) (g .steal)
   where
-    go : (t s : Bool) (c : Call) → acceptedOf (charge (cond t 1 2)) cs ≡ acceptedOf isLoad cs + cond t 2 3 * acceptedOf isStore cs
-        → cond s (charge (cond t 1 2) c) 0 + acceptedOf (charge (cond t 1 2)) cs
-        ≡ (cond s (isLoad c) 0 + acceptedOf isLoad cs) + cond t 2 3 * (cond s (isStore c) 0 + acceptedOf isStore cs)
-    go true true (Load u a) r = omega arith
-    go true true (Store u a v) r = omega arith
-    go true true (Flush u b) r = omega arith
-    go false true (Load u a) r = omega arith
-    go false true (Store u a v) r = omega arith
-    go false true (Flush u b) r = omega arith
-    go true false c r = omega arith
-    go false false c r = omega arith
+    go : (b : List Board) (t : Bool) → let g : Settings = record { boards = b; steal = t } in perStore g ≡ 1 + weightOf g
+    go b true = refl
+    go b false = refl
+
+-- the charges are one for a load and 1 + e for a store
+charges : (e : ℕ) (cs : List Call) → acceptedOf (charge e) cs ≡ acceptedOf isLoad cs + (1 + e) * acceptedOf isStore cs
+unfolding acceptedOf charge isLoad isStore
+charges e [] = omega arith
+charges e (c ∷ cs) = go (plainAccepts c) c (charges e cs)
+  where
+    n : ℕ
+    n = acceptedOf isStore cs
+
+    go : (t : Bool) (c : Call) → acceptedOf (charge e) cs ≡ acceptedOf isLoad cs + (1 + e) * n
+        → cond t (charge e c) 0 + acceptedOf (charge e) cs ≡ (cond t (isLoad c) 0 + acceptedOf isLoad cs) + (1 + e) * (cond t (isStore c) 0 + n)
+    go true (Load u a) r = omega (arith, mul-add (1 + e) 0 n)
+    go true (Store u a v) r = omega (arith, mul-add (1 + e) 1 n)
+    go true (Flush u b) r = omega (arith, mul-add (1 + e) 0 n)
+    go false c r = omega (arith, mul-add (1 + e) 0 n)
 
 -- ---- demand 3
 each-map : (P Q : Answer → Type 0) → ((r : Answer) → P r → Q r) → (rs : List Answer) → Each P rs → Each Q rs
@@ -107,13 +116,14 @@ unfolding Demand3Holds loads stores atFirst
 demand3 g m s cs rs d′ m′ k′ h =
     let o : Over (weightOf g) (atFirst g m) (s .directory) cs rs d′ m′ k′ = whole g m s cs rs d′ m′ k′ h in
     let i : Lawful g (s .directory) = first g m s cs rs d′ m′ k′ h .lawful in
+    let b : acceptedOf (charge (weightOf g)) cs ≡ acceptedOf isLoad cs + perStore g * acceptedOf isStore cs = rw (per-store g) (charges (weightOf g) cs) in
     record {
       plain = o .says;
       exclusiveFirst = lawful-exclusive g (s .directory) i;
       exclusive = each-map _ _ (λ r l. lawful-exclusive g (r .directory) l) rs (o .lawful);
       chosenFirst = i .chosen;
       chosen = each-map _ _ (λ r l. l .chosen) rs (o .lawful);
-      bill = omega (arith, o .cost, no-debt g m s cs rs d′ m′ k′ h, charges g cs);
+      bill = omega (arith, o .cost, no-debt g m s cs rs d′ m′ k′ h, b);
     }
 
 -- ---- peek
