@@ -29,6 +29,10 @@ unfolding choosable
 cannot-choose s t (inl h) = rw (lt-leb s 15 h)
 cannot-choose s t (inr h) = rw (lt-leb t 1 h) (and-false (leb s 15))
 
+on-or-off : (s : ℕ) → (chosen s 1 .steal ≡ true) × (chosen s 0 .steal ≡ false)
+unfolding chosen settingsOf
+on-or-off s = (refl, refl)
+
 started : (s t : ℕ) (d : List ℕ) → directorySize ≤ length d → s ≤ 15 → t ≤ 1
     → decoded (take directorySize (startDirectory s t d)) ≡ coldDirectory (chosen s t)
 unfolding startDirectory directoryPut
@@ -54,6 +58,7 @@ starts m k s t d =
       returned = λ h g f. rw (le-leb directorySize (length d) h, le-leb s 15 g, le-leb t 1 f);
       cache = λ h g f. rw (le-leb directorySize (length d) h, choose s t g f);
       directory = started s t d;
+      steal = on-or-off s;
       noRoom = λ h. rw (lt-leb directorySize (length d) h);
       noUnit = λ h g. rw (le-leb directorySize (length d) h, lt-leb s 15 g);
       fieldRange = λ h g f. rw (le-leb directorySize (length d) h, le-leb s 15 g, lt-leb t 1 f);

@@ -3,7 +3,7 @@
 -- start tests 1 alone; refused, its directory is all invalid", and "holds the chosen kinds too", with steal "kept like the boards' kinds".
 use Prim.Native.Nat.{ℕ, _≤_, _<_}
 use mathlib.Core.Path.{_≡_}
-use mathlib.Core.Bool.{Bool, cond, _&&_}
+use mathlib.Core.Bool.{Bool, true, false, cond, _&&_}
 use mathlib.Core.List.{List}
 use mathlib.Core.Logic.{_⊎_}
 use lib.ListN.{length, take}
@@ -39,6 +39,8 @@ pub record Starts (m k : List ℕ) (s t : ℕ) (d : List ℕ) : Type 0 where
   pub cache : directorySize ≤ length d → s ≤ allUnits → t ≤ 1 → startCache m k s t d ≡ cacheStarted m k
   pub directory : directorySize ≤ length d → s ≤ allUnits → t ≤ 1
       → decoded (take directorySize (startDirectory s t d)) ≡ startAnswer (chosen s t) m k .directory
+  -- steal is on for 1, off for 0
+  pub steal : (chosen s 1 .steal ≡ true) × (chosen s 0 .steal ≡ false)
   pub noRoom : length d < directorySize → startReturned m k s t d ≡ 9
   pub noUnit : directorySize ≤ length d → allUnits < s → startReturned m k s t d ≡ 3
   pub fieldRange : directorySize ≤ length d → s ≤ allUnits → 1 < t → startReturned m k s t d ≡ 8

@@ -10,7 +10,7 @@ use Rattle.coherence.specs.Calls.{unitOf, isTarget, refusal, act, loaded
 use Rattle.coherence.specs.Peek.{fromCache, newestBlock, newest, peeked}
 use Rattle.coherence.specs.PlainMemory.{plainAccepts, plainPut, plainAfter}
 use Rattle.coherence.specs.Snapshot.{replaced, takenBy, takenAfter, takenAfterAll}
-use Rattle.coherence.specs.Demand3.{ordersIn, ordersGiven, isLoad, isStore, acceptedOf, loads, stores}
+use Rattle.coherence.specs.Demand3.{ordersIn, ordersGiven, isLoad, isStore, acceptedOf, loads, stores, perStore}
 use Rattle.coherence.specs.AccessRows.{mixedSettings, stealing}
 use Rattle.coherence.specs.Examples.{zeros, drillCalls, valueAndOrders, conflict, mixedCalls, stealCalls, edgeCalls, peekAfter, takenCold, Examples}
 
@@ -22,7 +22,7 @@ unfolding
     firstRefusal sized isUnit isAddress isBlock sizeTest directoryTest unitTest targetTest callRefusal startRefusal peekRefusal
     unitOf isTarget refusal act loaded after valueOf packed answer memoryAfter cacheAfter answers afterAll answersCold afterCold
     fromCache newestBlock newest peeked plainPut plainAfter replaced takenBy takenAfter takenAfterAll peekAfter takenCold
-    plainAccepts ordersIn ordersGiven isLoad isStore acceptedOf loads stores zeros drillCalls valueAndOrders conflict edgeCalls
+    plainAccepts ordersIn ordersGiven isLoad isStore acceptedOf loads stores perStore zeros drillCalls valueAndOrders conflict edgeCalls
 examples =
     record {
       drill = record { lines = refl; total = refl };
@@ -33,6 +33,6 @@ examples =
       directories =
           record { bothShared = refl; modifiedAndShared = refl; otherBlock = refl; wrongSlot = refl; lastBlock = refl; noBlock = refl; numbers = refl };
       mixedBoards = record { lines = refl; modified = refl; shared = refl; other = refl };
-      steals = record { lines = refl; exactly = refl; memoryWrite = refl };
+      steals = record { lines = refl; bills = refl; exactly = refl; memoryWrite = refl };
       boundaries = record { calls = refl; plain = refl; peeks = refl; starts = refl };
     }

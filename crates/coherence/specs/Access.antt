@@ -75,8 +75,7 @@ reads Invalidate = false
 reads Copyback = false
 reads MemoryWrite = false
 
--- T-13: "With steal on, .. a retried read or modified read isn't given again: the asker takes the block during the copyback." What is filled from memory
--- then are the bytes that passed. "For a modified read the old holder becomes I", with all other holders: `claim`. "Memory writes are given again"
+-- T-13: "With steal on, .. a retried read or modified read isn't given again"; "Memory writes are given again as before." v as in `yield`
 unfoldable pub stolen : Settings → Command → ℕ → Bool
 stolen g k v = g .steal && reads k && ltb v 4
 
@@ -88,7 +87,8 @@ asked u k b v w = cond (stolen (w .directory .settings) k v) (yield u k b v w) (
 unfoldable pub ask : ℕ → Command → ℕ → Run → Run
 ask u k b w = asked u k b (ownerOf (w .directory) b) w
 
--- "The block is filled from memory. Load: SU." Slot n takes block b
+-- "The block is filled from memory. Load: SU." Slot n takes block b. T-13: "the asker takes the block during the copyback": memory then has the holder's
+-- bytes
 unfoldable pub fill : ℕ → ℕ → Run → Run
 fill n b w =
     record {
@@ -110,7 +110,7 @@ eachUnit f w = f 3 (f 2 (f 1 (f 0 w)))
 unfoldable pub expel : ℕ → ℕ → ℕ → Run → Run
 expel u b v w = cond (not (eqb v u) && holds (slotAt (w .directory) (place v b)) b) (mark (place v b) Invalid w) w
 
--- "Store: other holders become I, the slot becomes EM." Unit u holds block b SU before
+-- "Store: other holders become I, the slot becomes EM." T-13: "For a modified read the old holder becomes I." Unit u holds block b SU before
 unfoldable pub claim : ℕ → ℕ → Run → Run
 claim u b w = mark (place u b) (Modified b) (eachUnit (expel u b) w)
 

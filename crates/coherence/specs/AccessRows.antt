@@ -219,12 +219,12 @@ pub record Peeks : Type 0 where
   pub modifiedOffset : peekOffset (slotTwo Invalid (Shared 2) (Modified 18) Invalid) sevens (caches elevens) 18 ≡ 1088
 
 -- "all slots invalid, cache store all zeros"; "Cold start tests 1 alone; refused, its directory is all invalid", "and leaves .. stores .. unchanged"; "a kind
--- for each unit, chosen at cold start (a refused one's directory holds the chosen kinds too)"
+-- for each unit, chosen at cold start (a refused one's directory holds the chosen kinds too)"; steal "chosen at cold start and kept like the boards' kinds"
 pub record Starts : Type 0 where
   pub cache : cacheStarted sevens (caches elevens) ≡ replicate 2048 0
-  pub directory : startAnswer mixedSettings sevens (caches elevens) .directory ≡ mixedTwo Invalid Invalid Invalid Invalid
-  pub shortMemory : startAnswer mixedSettings (drop 1 sevens) (caches elevens) .refusal ≡ 1
-  pub shortMemoryDirectory : startAnswer mixedSettings (drop 1 sevens) (caches elevens) .directory ≡ mixedTwo Invalid Invalid Invalid Invalid
+  pub directory : startAnswer (stealing mixedSettings) sevens (caches elevens) .directory ≡ mixedStealTwo Invalid Invalid Invalid Invalid
+  pub shortMemory : startAnswer (stealing mixedSettings) (drop 1 sevens) (caches elevens) .refusal ≡ 1
+  pub shortMemoryDirectory : startAnswer (stealing mixedSettings) (drop 1 sevens) (caches elevens) .directory ≡ mixedStealTwo Invalid Invalid Invalid Invalid
   pub shortMemoryCache : cacheStarted (drop 1 sevens) (caches elevens) ≡ caches elevens
   pub shortCache : cacheStarted sevens (drop 1 (caches elevens)) ≡ drop 1 (caches elevens)
 

@@ -20,7 +20,7 @@ use Rattle.coherence.specs.Peek.{peeked}
 use Rattle.coherence.specs.PlainMemory.{plainAccepts}
 use Rattle.coherence.specs.Snapshot.{takenAfterAll}
 use Rattle.coherence.specs.AccessRows.{mixedSettings, stealing}
-use Rattle.coherence.specs.Demand3.{ordersIn, ordersGiven, loads, stores}
+use Rattle.coherence.specs.Demand3.{ordersIn, ordersGiven, loads, stores, perStore}
 
 unfoldable pub zeros : List ℕ
 zeros = replicate storeSize 0
@@ -117,7 +117,9 @@ stealCalls = Store 0 72 9 ∷ Load 2 72 ∷ Store 2 72 10 ∷ Store 0 72 11 ∷ 
 
 pub record Steals : Type 0 where
   pub lines : map valueAndOrders (answersCold (stealing mixedSettings) zeros stealCalls) ≡ (0, 1) ∷ (9, 2) ∷ (0, 1) ∷ (0, 2) ∷ (0, 3) ∷ (12, 1) ∷ []
-  -- "The bill then falls to loads plus twice the stores": the first two calls give exactly that, one load plus twice one store
+  -- "The bill then falls to loads plus twice the stores. .. With steal off, .. all stays."
+  pub bills : map perStore (stealing mixedSettings ∷ mixedSettings ∷ []) ≡ 2 ∷ 3 ∷ []
+  -- it is reached: the first two calls give exactly one load plus twice one store
   pub exactly : ordersGiven (answersCold (stealing mixedSettings) zeros (take 2 stealCalls)) ≡ loads (take 2 stealCalls) + 2 * stores (take 2 stealCalls)
   -- "with write-through units too": twice two stores, the second a memory write
   pub memoryWrite : ordersGiven (answersCold (stealing mixedSettings) zeros (Store 0 72 9 ∷ Store 1 72 12 ∷ [])) ≡ 4
