@@ -1,4 +1,3 @@
-pub mod StartLaws
 pub mod CallLaws
 pub mod PlaceLaws
 pub mod FollowLaws

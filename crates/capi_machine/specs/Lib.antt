@@ -1,5 +1,4 @@
 -- What crosses between the machine and a program in another language.
-pub mod Start
 pub mod Call
 pub mod Place
 pub mod Follow

@@ -153,7 +153,7 @@ pub(crate) fn newest(given: Row) {
 }
 
 fn cold(directory: &mut [u8], memory: &[u8], cache: &mut [u8], write_through: u32, steal: u32) {
-    show(capi_machine::trainer_cold_start(memory, cache, write_through, steal, directory) as u64);
+    show(capi_start::trainer_cold_start(memory, cache, write_through, steal, directory) as u64);
     changed(directory, 255);
     changed(cache, 128);
 }

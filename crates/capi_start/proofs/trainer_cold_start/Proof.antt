@@ -1,14 +1,14 @@
--- `capi_machine::trainer_cold_start` meets its contract.
+-- `capi_start::trainer_cold_start` meets its contract.
 use mathlib.Core.Path.{sym}
 use mathlib.Core.Logic.{inl, inr}
 use borrow.Author.Tests.{le-leb}
 use Rattle.coherence.specs.Calls.{startAnswer}
 use Rattle.layout.specs.Directory.{directorySize}
-use Rattle.capi_machine.specs.Start.{chosen, choosable, startReturned, startCache, startDirectory}
-use Rattle.capi_machine.proofs.StartLaws.{starts}
+use Rattle.capi_start.specs.Start.{chosen, choosable, startReturned, startCache, startDirectory}
+use Rattle.capi_start.proofs.StartLaws.{starts}
 use borrow.Author.Needs.{needs}
-use Rattle.capi_machine.proofs.trainer_cold_start.Statement.{statement}
-use Rattle.capi_machine.proofs.trainer_cold_start.Tie as tie
+use Rattle.capi_start.proofs.trainer_cold_start.Statement.{statement}
+use Rattle.capi_start.proofs.trainer_cold_start.Tie as tie
 
 cast-result : tie.Need-cast-result
 cast-result c = search needs

@@ -14,7 +14,7 @@ use Rattle.coherence.specs.Calls.{startAnswer}
 use Rattle.boards.specs.Boards.{settingsOf}
 use Rattle.layout.specs.Directory.{directorySize, decoded, encoded, directoryPut}
 use Rattle.layout.proofs.Inverse.{inverse, length-encoded}
-use Rattle.capi_machine.specs.Start.{chosen, choosable, startReturned, startCache, startDirectory, Starts}
+use Rattle.capi_start.specs.Start.{chosen, choosable, startReturned, startCache, startDirectory, Starts}
 
 cold-back : (s t : ℕ) → decoded (encoded (coldDirectory (chosen s t))) ≡ coldDirectory (chosen s t)
 unfolding coldDirectory chosen settingsOf
