@@ -35,17 +35,21 @@ enum {
   TRAINER_HALVES_DIFFER = 17    /* an address cycle whose halves differ */
 };
 
-/* ---- The cache machine (document 01, and document 02, T-05 and T-13) */
+/* ---- The cache machine (document 01, and document 02, T-05, T-08 and T-13) */
 
 /* Processors; slots of each; blocks of memory; bytes of a block; bytes of the memory store, and of the cache store. Block b lies at 32 b in
  * memory; slot s of unit u lies at 512 u + 32 s in the cache store. */
 enum { TRAINER_UNITS = 4, TRAINER_SLOTS = 16, TRAINER_BLOCKS = 64, TRAINER_BLOCK = 32, TRAINER_STORE = 2048 };
 
-/* Bytes of the directory. Slot s of unit u stands at 2 (16 u + s): its state, then its block (0 if it is invalid). Byte 128 has the kinds: it is
- * the set of the units that have a write-through board, unit 0 having weight 1, unit 3 weight 8; the other units have copyback boards. Byte 129
- * is 1 with steal on, 0 with steal off. A call keeps both bytes. Bytes that do not stand for a directory that keeps the rules are refused with
- * TRAINER_BROKEN_DIRECTORY, a set above 15, a write-through unit with a modified slot and steal above 1 too. */
-enum { TRAINER_DIRECTORY = 130 };
+/* Bytes of the directory:
+ *   0 to 127    slot s of unit u stands at 2 (16 u + s): its state, then its block (0 if it is invalid);
+ *   128         the kinds: the set of the units that have a write-through board; the other units have copyback boards;
+ *   129         1 with steal on, 0 with steal off;
+ *   130 to 193  the set of the units that hold block b, which are those that have it in a valid slot, stands at 130 + b.
+ * In a set unit 0 has weight 1, unit 1 weight 2, unit 2 weight 4, unit 3 weight 8. A call keeps bytes 128 and 129, and leaves the sets of holders
+ * true. Bytes that do not stand for a directory that keeps the rules are refused with TRAINER_BROKEN_DIRECTORY, and so are a set above 15, a
+ * write-through unit with a modified slot, steal above 1, a set of holders that differs from the slots, and another number of bytes. */
+enum { TRAINER_DIRECTORY = 194 };
 
 /* The states of a slot: invalid (I), shared and unmodified (SU), exclusive and modified (EM). A slot of a write-through unit is never EM. */
 enum { TRAINER_INVALID = 0, TRAINER_SHARED = 1, TRAINER_MODIFIED = 2 };
@@ -63,9 +67,9 @@ enum { TRAINER_ANSWER = 18, TRAINER_VALUE = 0, TRAINER_COUNT = 1, TRAINER_FIRST_
 enum { TRAINER_IN_MEMORY = 0, TRAINER_IN_CACHE = 1 };
 
 /* Starts cold: every byte of the cache store becomes 0, and the first TRAINER_DIRECTORY bytes of the directory's space a directory that is all
- * invalid. write_through is the set of the units that have a write-through board, in the weights of byte 128; steal is on (1) or off (0).
- * Refusals: 9 if the directory's space is below TRAINER_DIRECTORY bytes; then 3 (a set above 15: it names a unit above 3); then 8 (steal above
- * 1); then 1, and the directory becomes all invalid with the chosen kinds and steal all the same. */
+ * invalid, with all sets of holders empty. write_through is the set of the units that have a write-through board, in the weights of byte 128;
+ * steal is on (1) or off (0). Refusals: 9 if the directory's space is below TRAINER_DIRECTORY bytes; then 3 (a set above 15: it names a unit
+ * above 3); then 8 (steal above 1); then 1, and the directory becomes all invalid with the chosen kinds and steal all the same. */
 uint32_t trainer_cold_start(const uint8_t *memory, size_t memory_size,
                             uint8_t *cache, size_t cache_size,
                             uint32_t write_through, uint32_t steal,
@@ -100,6 +104,12 @@ uint32_t trainer_peek(const uint8_t *directory, size_t directory_size,
                       const uint8_t *cache, size_t cache_size,
                       uint32_t block,
                       uint32_t *store, uint32_t *offset);
+
+/* Who holds block: *set is the set of the units that hold it, in the weights of the directory's sets, *count how many they are, 0 to
+ * TRAINER_UNITS. Refusals: 2, 4. */
+uint32_t trainer_holders(const uint8_t *directory, size_t directory_size,
+                         uint32_t block,
+                         uint32_t *set, uint32_t *count);
 
 /* ---- The tape */
 

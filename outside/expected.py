@@ -164,11 +164,12 @@ I, SU, EM = range(3)
 
 
 class Machine:
-    def __init__(self, slots, memory, cache, write_through=0, steal=0):
+    def __init__(self, slots, memory, cache, write_through=0, steal=0, *sets):
         """Slots are a map from (unit, slot) to [state, block]; write_through is the set of the write-through units, unit 0 having weight 1 (T-05); steal is 1
-        where it is on (T-13)."""
+        where it is on (T-13); sets are what is kept for each block as the set of its holders (T-08), all empty where none is given."""
         self.slots = {**{(u, s): [I, 0] for u in range(4) for s in range(16)}, **slots}
         self.memory, self.cache, self.orders, self.write_through, self.steal = memory, cache, [], write_through, steal
+        self.sets = list(sets) or [0] * 64
 
     def writes_through(self, unit):
         return self.write_through // 2**unit % 2 == 1
@@ -182,10 +183,18 @@ class Machine:
             kept = state <= (SU if self.writes_through(u) else EM)
             return kept and block <= 63 and block % 16 == s and alone
 
-        return self.write_through > 15 or self.steal > 1 or not all(rule(u, s) for u, s in self.slots)
+        return self.write_through > 15 or self.steal > 1 or not all(rule(u, s) for u, s in self.slots) or self.sets != self.true_sets()
+
+    def holders(self, block):
+        """The units holding a block: those of which one of the valid slots has it."""
+        return {u for (u, _), (state, own) in self.slots.items() if state != I and own == block}
+
+    def true_sets(self):
+        """For each of the 64 blocks the set of units holding it, unit 0 having weight 1, unit 3 weight 8 (T-08)."""
+        return [sum((1, 2, 4, 8)[u] for u in self.holders(block)) for block in range(64)]
 
     def directory(self):
-        return sum((list(self.slots[n // 16, n % 16]) for n in range(64)), []) + [self.write_through, self.steal]
+        return sum((list(self.slots[n // 16, n % 16]) for n in range(64)), []) + [self.write_through, self.steal] + self.sets
 
     def refusal(self, tests, unit, address, block):
         faults = {
@@ -292,8 +301,8 @@ def changes(before, after):
 
 def machine_of(memory_size, cache_size, pairs):
     """A machine whose directory has these bytes, place and byte of each: slot n = 16 u + s has its state at 2 n and its block behind it, the set of the
-    write-through units stands at 128, steal at 129."""
-    directory = [0] * 130
+    write-through units stands at 128, steal at 129, the set of the units that hold block b at 130 + b."""
+    directory = [0] * 194
     for place, byte in zip(pairs[::2], pairs[1::2]):
         directory[place] = byte
     slots = {(n // 16, n % 16): directory[2 * n : 2 * n + 2] for n in range(64)}
@@ -301,13 +310,14 @@ def machine_of(memory_size, cache_size, pairs):
 
 
 def machine(memory_size, cache_size, target, call, unit, value, *pairs):
-    """0 load, 1 store, 2 flush."""
+    """0 load, 1 store, 2 flush. Each call keeps the sets true (T-08)."""
     m = machine_of(memory_size, cache_size, pairs)
     refusal, given = m.refusal([1, 2, 3, 4], unit, None if call == 2 else target, target), [0] * 18
     if not refusal:
         given[0] = [lambda: m.load(unit, target), lambda: m.store(unit, target, value), lambda: m.flush(unit, target)][call]()
         given[1 : 2 + 4 * len(m.orders)] = [len(m.orders)] + sum(m.orders, [])
-    lent = [([0] * 130, m.directory()), (filled(0, memory_size), m.memory), (filled(128, cache_size), m.cache)]
+        m.sets = m.true_sets()
+    lent = [([0] * 194, m.directory()), (filled(0, memory_size), m.memory), (filled(128, cache_size), m.cache)]
     return [refusal] + given, "".join(";" + changes(before, after) for before, after in lent)
 
 
@@ -321,15 +331,23 @@ def newest(memory_size, cache_size, block, *rest):
     return [0, 1, 512 * owners[0] + 32 * (block % 16)] if owners else [0, 0, 32 * block]
 
 
+def units(_, __, block, *rest):
+    """The set of the units that hold a block, and how many they are: tests 2, then 4 (T-08)."""
+    m = machine_of(2048, 2048, rest[3:])
+    refusal = m.refusal([2, 4], 0, None, block)
+    return [refusal, 0, 0] if refusal else [0, m.sets[block], len(m.holders(block))]
+
+
 def start(memory_size, cache_size, write_through=0, steal=0, *rest):
-    """A cold start tests 1; refused, its directory is all invalid and holds the chosen kinds too (T-05), and the chosen steal, which is kept like them (T-13).
-    Before that a set that names a unit above 3 is refused with 3, and then steal that is neither on nor off with 8; these two change nothing."""
+    """A cold start tests 1; refused, its directory is all invalid and holds the chosen kinds too (T-05), and the chosen steal, which is kept like them (T-13);
+    all sets are empty (T-08). Before that a set that names a unit above 3 is refused with 3, and then steal that is neither on nor off with 8; these two change
+    nothing."""
     m = machine_of(memory_size, cache_size, rest[2:])
     refusal, directory, cache = 3 if write_through > 15 else 8 if steal > 1 else 0, m.directory(), m.cache
     if not refusal:
-        refusal, directory = m.refusal([1], 0, 0, 0), [0] * 128 + [write_through, steal]
+        refusal, directory = m.refusal([1], 0, 0, 0), [0] * 128 + [write_through, steal] + [0] * 64
         cache = m.cache if refusal else [0] * 2048
-    return [refusal], ";" + changes([0] * 130, directory) + ";" + changes(filled(128, cache_size), cache)
+    return [refusal], ";" + changes([0] * 194, directory) + ";" + changes(filled(128, cache_size), cache)
 
 
 def drill(room, *tape):
@@ -351,7 +369,7 @@ def drill(room, *tape):
     return ([0, len(text)], "\n" + text) if len(text) <= room else ([9, 0], "\n")
 
 
-CALLS = {"p": parity, "l": lanes, "t": transfer, "a": answer, "c": class_, "h": handler, "r": reading, "w": writing, "m": machine, "n": newest, "s": start, "d": drill}
+CALLS = {"p": parity, "l": lanes, "t": transfer, "a": answer, "c": class_, "h": handler, "r": reading, "w": writing, "m": machine, "n": newest, "u": units, "s": start, "d": drill}
 
 for row in sys.stdin.read().splitlines():
     if row == "" or row[0] == '"':

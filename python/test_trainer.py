@@ -28,9 +28,11 @@ class Case(unittest.TestCase):
         """With this byte at this place of the directory each call is refused with 2, before 3 and 4."""
         machine._directory[place] = byte
         self.refused(2, "broken directory", machine.peek, 64)
+        self.refused(2, "broken directory", machine.holders, 64)
         self.refused(2, "broken directory", machine.load, 4, 1)
         self.refused(2, "broken directory", machine.store, 4, 1, 0)
         self.refused(2, "broken directory", machine.flush, 4, 64)
+        self.assertEqual(machine._directory[place], byte)
 
 
 class Machines(Case):
@@ -156,13 +158,13 @@ class WriteThrough(Case):
 
     def test_what_a_cold_start_writes(self):
         # Bytes of the memory store, of the cache store and of the directory's space; the set; steal; the refusal.
-        cases = [(2047, 2048, 129, 16, 2, 9), (2047, 2048, 130, 16, 2, 3), (2048, 2048, 131, 2**32 - 1, 0, 3), (2047, 2048, 130, 15, 2, 8)]
-        cases += [(2048, 2048, 131, 0, 2**32 - 1, 8), (2047, 2048, 131, 10, 1, 1), (2048, 2047, 130, 15, 0, 1)]
-        for memory_size, cache_size, space, chosen, steal, number in cases + [(2048, 2048, 131, 5, 1, 0), (2048, 2048, 130, 0, 0, 0)]:
+        cases = [(2047, 2048, 193, 16, 2, 9), (2048, 2048, 130, 0, 0, 9), (2047, 2048, 194, 16, 2, 3), (2048, 2048, 195, 2**32 - 1, 0, 3)]
+        cases += [(2047, 2048, 194, 15, 2, 8), (2048, 2048, 195, 0, 2**32 - 1, 8), (2047, 2048, 195, 10, 1, 1), (2048, 2047, 194, 15, 0, 1)]
+        for memory_size, cache_size, space, chosen, steal, number in cases + [(2048, 2048, 195, 5, 1, 0), (2048, 2048, 194, 0, 0, 0)]:
             with self.subTest(number, chosen=chosen, steal=steal):
                 memory, cache, directory = (trainer._bytes(b"\xee" * size) for size in (memory_size, cache_size, space))
                 self.assertEqual(trainer._call("cold_start", memory, cache, trainer._u32(chosen), trainer._u32(steal), directory), number)
-                written = b"" if number in (9, 3, 8) else bytes(128) + bytes([chosen, steal])
+                written = b"" if number in (9, 3, 8) else bytes(128) + bytes([chosen, steal]) + bytes(64)
                 self.assertEqual(bytes(directory), written + b"\xee" * (space - len(written)))
                 self.assertEqual((set(memory), set(cache)), ({0xEE}, {0xEE if number else 0}))
 
@@ -170,9 +172,6 @@ class WriteThrough(Case):
         machine = trainer.Machine()
         for kinds in (16, 17, 128, 255):
             self.broken(machine, 128, kinds)
-        for size in (129, 131):
-            machine._directory = trainer._bytes(bytes(size))
-            self.refused(2, "broken directory", machine.load, 0, 0)
 
     def test_a_modified_slot_of_a_write_through_unit(self):
         machine = trainer.Machine()
@@ -302,6 +301,130 @@ class Steal(Case):
         for steal in (1, 0):
             machine._directory[129] = steal
             self.assertEqual(machine.load(0, 72), (9, ()))
+
+
+class Holders(Case):
+    """Who holds a block, and the sets in the directory: that of block b stands at 130 + b."""
+
+    NOBODY = trainer.Holders(0, 0)
+
+    def lamp(self, machine, block, calls):
+        """What the lamp of a block shows after each call: the set and the count."""
+        shown = []
+        for name, *numbers in calls:
+            getattr(machine, name)(*numbers)
+            shown.append(tuple(machine.holders(block)))
+            self.assertEqual(machine._directory[130 + block], shown[-1][0])
+        return shown
+
+    def sets(self, machine):
+        """The sets of all blocks by the machine's valid slots."""
+        sets = [0] * 64
+        for unit in range(4):
+            for state, block in (machine.slot(unit, slot) for slot in range(16)):
+                sets[block] += 2**unit if state != State.INVALID else 0
+        return sets
+
+    def test_a_lamp_follows_a_run(self):
+        calls = [("load", 0, 72), ("load", 3, 72), ("store", 3, 72, 9), ("load", 1, 72), ("load", 3, 584), ("flush", 1, 2)]
+        # Unit 3 stores as a copyback unit, as a write-through one, and where unit 1's load is then stolen. Block 18 has block 2's slot.
+        for settings in (((), False), ((3,), False), ((), True), ((3,), True)):
+            with self.subTest(settings):
+                machines = [trainer.Machine(self.MEMORY, *settings) for _ in range(2)]
+                self.assertEqual([machines[0].holders(block) for block in range(64)], [self.NOBODY] * 64)
+                self.assertEqual(self.lamp(machines[0], 2, calls), [(1, 1), (9, 2), (8, 1), (10, 2), (2, 1), (0, 0)])
+                self.assertEqual(self.lamp(machines[1], 18, calls), [(0, 0)] * 4 + [(8, 1)] * 2)
+
+    def test_a_lamp_of_a_write_through_unit(self):
+        calls = [("load", 1, 72), ("load", 0, 72), ("store", 1, 72, 9), ("store", 0, 72, 8), ("store", 1, 72, 7), ("load", 2, 72), ("store", 1, 76, 6)]
+        shown = [(2, 1), (3, 2), (2, 1), (1, 1), (0, 0), (4, 1), (0, 0)]
+        for steal in (False, True):
+            self.assertEqual(self.lamp(trainer.Machine(self.MEMORY, (1,), steal), 2, calls), shown)
+
+    def test_every_set_and_its_count(self):
+        for number in range(16):
+            machine = trainer.Machine()
+            units = [unit for unit in range(4) if number >> unit & 1]
+            for unit in units:
+                machine.load(unit, 2044)
+            self.assertEqual(machine.holders(63), trainer.Holders(number, len(units)))
+            self.assertEqual((machine.holders(63).set, machine.holders(63).count), (number, len(units)))
+            self.assertEqual([machine.holders(block) for block in (15, 47, 62)], [self.NOBODY] * 3)
+
+    def call(self, machine, chance):
+        """A call at random on three blocks of one slot and the last block."""
+        kind, unit, address = chance.randrange(5), chance.randrange(4), 4 * chance.choice((0, 128, 256, 511))
+        if kind == 0:
+            machine.store(unit, address, 5)
+        elif kind == 1:
+            machine.flush(unit, address // 32)
+        else:
+            machine.load(unit, address)
+
+    def test_lamps_of_lists_of_calls(self):
+        for number in range(32):
+            chosen, steal = {unit for unit in range(4) if number >> unit & 1}, number > 15
+            with self.subTest(write_through=chosen, steal=steal):
+                chance, machine, met = random.Random(number), trainer.Machine(self.MEMORY, chosen, steal), set()
+                for _ in range(500):
+                    self.call(machine, chance)
+                    sets = self.sets(machine)
+                    self.assertEqual(list(machine._directory[130:]), sets)
+                    for block in (0, 16, 32, 48, 63):
+                        self.assertEqual(machine.holders(block), (sets[block], bin(sets[block]).count("1")))
+                    met |= set(sets)
+                self.assertEqual(met, set(range(16)))
+
+    def test_blocks_out_of_range(self):
+        machine = trainer.Machine()
+        machine.load(0, 0)
+        machine.store(3, 2044, 9)
+        self.assertEqual((machine.holders(0), machine.holders(63)), ((1, 1), (8, 1)))
+        for block in (64, 127, 255, 256, 319, 2**31, 2**32 - 64, 2**32 - 1):
+            self.refused(4, "bad address", machine.holders, block)
+        for bad in (-1, 2**32):
+            self.assertRaises(OverflowError, machine.holders, bad)
+
+    def test_sets_that_differ_from_the_slots(self):
+        machine = trainer.Machine(write_through=(0,), steal=True)
+        for unit in (0, 1):
+            machine.load(unit, 72)
+        machine.store(3, 584, 9)
+        before = bytes(machine._directory)
+        self.assertEqual((before[132], before[148]), (3, 8))
+        # Of block 2, in units 0 and 1; of block 18, EM in unit 3; of block 3, which nobody holds, and of the first and last block.
+        damaged = {132: (0, 1, 2, 7, 12, 19, 255), 148: (0, 1, 9, 24, 136), 133: (1, 8, 16, 255), 130: (1, 128), 193: (8, 128)}
+        for place, sets in damaged.items():
+            for units in sets:
+                with self.subTest(place=place, set=units):
+                    self.broken(machine, place, units)
+            machine._directory[place] = before[place]
+            self.assertEqual((machine.holders(2), machine.holders(18), machine.load(0, 72).orders), ((3, 2), (8, 1), ()))
+        # The sets of two blocks exchanged; a refused call leaves them.
+        exchanged = before[:132] + before[148:149] + before[133:148] + before[132:133] + before[149:]
+        machine._directory = trainer._bytes(exchanged)
+        self.refused(2, "broken directory", machine.holders, 2)
+        self.refused(2, "broken directory", machine.flush, 3, 18)
+        self.assertEqual(bytes(machine._directory), exchanged)
+
+    def test_directories_of_another_length(self):
+        for size in (0, 128, 130, 193, 195, 388):
+            machine = trainer.Machine()
+            machine._directory = trainer._bytes(bytes(size))
+            with self.subTest(size):
+                self.refused(2, "broken directory", machine.holders, 64)
+                self.refused(2, "broken directory", machine.peek, 64)
+                self.refused(2, "broken directory", machine.load, 4, 1)
+                self.refused(2, "broken directory", machine.store, 4, 1, 0)
+                self.refused(2, "broken directory", machine.flush, 4, 64)
+
+    def test_what_a_refused_call_writes(self):
+        good, broken = bytes(194), bytes(132) + b"\x01" + bytes(61)
+        for directory, block, number in ((good, 63, 0), (good, 64, 4), (good, 2**32 - 1, 4), (broken, 2, 2), (broken, 64, 2), (good[1:], 64, 2)):
+            lent, units, count = trainer._bytes(directory), ctypes.c_uint32(77), ctypes.c_uint32(78)
+            self.assertEqual(trainer._call("holders", lent, trainer._u32(block), units, count), number)
+            self.assertEqual((units.value, count.value), (77, 78) if number else (0, 0))
+            self.assertEqual(bytes(lent), directory)
 
 
 class PlainMemory(Case):

@@ -24,7 +24,7 @@ from typing import FrozenSet, Iterable, Iterator, List, NamedTuple, Optional, Tu
 STORE = 2048  # bytes of the memory store, and of the cache store
 BLOCK = 32  # bytes of a block
 MESSAGE = 4096  # the most bytes of a message
-_DIRECTORY, _ANSWER, _RECORD, _TEXT, _NO_OWNER = 130, 18, 7, 720_960, 8
+_DIRECTORY, _ANSWER, _RECORD, _TEXT, _NO_OWNER = 194, 18, 7, 720_960, 8
 
 # ---- Refusals
 
@@ -152,6 +152,13 @@ class Reply(NamedTuple):
     orders: Tuple[Order, ...]
 
 
+class Holders(NamedTuple):
+    """The units that hold a block, as a set in which unit u has weight 2^u, and how many they are."""
+
+    set: int
+    count: int
+
+
 class Slot(NamedTuple):
     """A slot of the directory; an invalid one has block 0."""
 
@@ -202,6 +209,12 @@ class Machine:
         _do("peek", self._directory, self._memory, self._cache, _u32(block), store, offset)
         held = self._cache if store.value == 1 else self._memory
         return bytes(held[offset.value : offset.value + BLOCK])
+
+    def holders(self, block: int) -> Holders:
+        """The units that hold block."""
+        units, count = _U32(), _U32()
+        _do("holders", self._directory, _u32(block), units, count)
+        return Holders(units.value, count.value)
 
     def slot(self, unit: int, slot: int) -> Slot:
         """Slot 0 to 15 of unit 0 to 3, as the directory has it."""

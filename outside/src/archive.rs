@@ -45,6 +45,11 @@ mod foreign {
             block: u32,
             store: *mut u32, offset: *mut u32,
         ) -> u32;
+        pub fn trainer_holders(
+            directory: *const u8, directory_size: usize,
+            block: u32,
+            set: *mut u32, count: *mut u32,
+        ) -> u32;
         pub fn trainer_read_record(
             tape: *const u8, tape_size: usize,
             place: usize, next: *mut usize,
@@ -165,6 +170,10 @@ pub fn peek(directory: &[u8], memory: &[u8], cache: &[u8], block: u32, store: &m
             store, offset,
         )
     }
+}
+
+pub fn holders(directory: &[u8], block: u32, set: &mut u32, count: &mut u32) -> u32 {
+    unsafe { foreign::trainer_holders(directory.as_ptr(), directory.len(), block, set, count) }
 }
 
 pub fn read_record(tape: &[u8], place: usize, next: &mut usize, numbers: &mut [u64]) -> u32 {

@@ -1,6 +1,7 @@
 //! The cache machine. A unit is the kind of its board and a map from the blocks it holds to how it holds them, with the copies beside it;
-//! whether steal is on stands beside the units. The two stores and the directory's bytes are taken in before a call and given back after it.
-use std::collections::BTreeMap;
+//! whether steal is on stands beside the units, and for each block the units that hold it. The two stores and the directory's bytes are
+//! taken in before a call and given back after it.
+use std::collections::{BTreeMap, BTreeSet};
 
 pub const UNITS: usize = 4;
 pub const SLOTS: usize = 16;
@@ -8,12 +9,14 @@ pub const BLOCKS: usize = 64;
 pub const BLOCK_BYTES: usize = 32;
 pub const STORE_BYTES: usize = 2048;
 /// Two bytes for each slot, slot s of unit u at 2 (16 u + s): state 0 I, 1 SU, 2 EM, then the block. Behind them the set of
-/// the units that have a write-through board, and whether steal is on.
-pub const DIRECTORY_BYTES: usize = 130;
-/// The place of that set.
+/// the units that have a write-through board, whether steal is on, and for each block the set of the units that hold it.
+pub const DIRECTORY_BYTES: usize = 194;
+/// The place of the set of write-through units.
 pub const SET_PLACE: usize = 128;
 /// The place of steal.
 pub const STEAL_PLACE: usize = 129;
+/// The place of block 0's set of holders.
+pub const HOLDERS_PLACE: usize = 130;
 
 pub const WRONG_SIZE: u32 = 1;
 pub const BROKEN_DIRECTORY: u32 = 2;
@@ -86,6 +89,13 @@ pub enum Newest {
     Cache { offset: usize },
 }
 
+/// The set of the units that hold a block, unit 0 having weight 1, unit 3 weight 8, and how many they are.
+#[derive(Clone, Copy, Debug, PartialEq, Eq)]
+pub struct Holders {
+    pub set: u32,
+    pub count: u32,
+}
+
 type Line = [u8; BLOCK_BYTES];
 
 #[derive(Clone, Debug, PartialEq, Eq)]
@@ -100,6 +110,15 @@ pub struct Machine {
     units: Vec<Unit>,
     memory: Vec<Line>,
     steal: bool,
+    holders: Vec<BTreeSet<usize>>,
+}
+
+/// What the bytes of a directory say: the units' kinds and the blocks they hold, whether steal is on, and the holders of each block.
+struct Directory {
+    kinds: Kinds,
+    held: Vec<BTreeMap<u32, Held>>,
+    steal: bool,
+    holders: Vec<BTreeSet<usize>>,
 }
 
 fn lines(store: &[u8]) -> Vec<Line> {
@@ -110,12 +129,35 @@ fn slot_of(block: u32) -> usize {
     block as usize % SLOTS
 }
 
-/// The kind of each unit and the blocks it holds, or `None` where the bytes break a rule of the directory.
-fn units_of(directory: &[u8]) -> Option<(Kinds, Vec<BTreeMap<u32, Held>>)> {
+/// The units of a set; `None` where it names a unit above 3.
+fn members(set: u8) -> Option<BTreeSet<usize>> {
+    (set < 1 << UNITS).then(|| (0..UNITS).filter(|unit| set >> unit & 1 == 1).collect())
+}
+
+/// The set of these units.
+fn set_of(units: &BTreeSet<usize>) -> u8 {
+    units.iter().fold(0, |set, unit| set | 1 << unit)
+}
+
+/// A block's set and its count of holders: tests 4.
+fn holders_of(holders: &[BTreeSet<usize>], block: u32) -> Result<Holders, u32> {
+    let units = holders.get(block as usize).ok_or(BAD_ADDRESS)?;
+    Ok(Holders { set: set_of(units).into(), count: units.len() as u32 })
+}
+
+/// A block's set and its count of holders by a directory's bytes: tests 2, then 4.
+pub fn holders_in(directory: &[u8], block: u32) -> Result<Holders, u32> {
+    holders_of(&contents(directory).ok_or(BROKEN_DIRECTORY)?.holders, block)
+}
+
+/// What the bytes say, or `None` where they break a rule of the directory.
+fn contents(directory: &[u8]) -> Option<Directory> {
     if directory.len() != DIRECTORY_BYTES {
         return None;
     }
     let kinds = kinds_of(directory[SET_PLACE].into())?;
+    let steal = steal_of(directory[STEAL_PLACE].into())?;
+    let holders = directory[HOLDERS_PLACE..].iter().map(|&set| members(set)).collect::<Option<Vec<_>>>()?;
     let mut units = vec![BTreeMap::new(); UNITS];
     for (number, pair) in directory[..SET_PLACE].chunks_exact(2).enumerate() {
         let (unit, slot, block) = (number / SLOTS, number % SLOTS, pair[1] as u32);
@@ -130,20 +172,23 @@ fn units_of(directory: &[u8]) -> Option<(Kinds, Vec<BTreeMap<u32, Held>>)> {
         }
         units[unit].insert(block, held);
     }
-    for block in 0..BLOCKS as u32 {
-        let holders: Vec<Held> = units.iter().filter_map(|unit| unit.get(&block).copied()).collect();
-        if holders.contains(&Held::ExclusiveModified) && holders.len() > 1 {
+    for (block, kept) in holders.iter().enumerate() {
+        let found: BTreeMap<usize, Held> = units.iter().enumerate().filter_map(|(n, unit)| Some((n, *unit.get(&(block as u32))?))).collect();
+        if found.values().any(|&held| held == Held::ExclusiveModified) && found.len() > 1 {
+            return None;
+        }
+        if !found.keys().eq(kept) {
             return None;
         }
     }
-    Some((kinds, units))
+    Some(Directory { kinds, held: units, steal, holders })
 }
 
 impl Machine {
-    /// All slots invalid, the cache store all zeros, memory as lent, the boards' kinds and steal as chosen.
+    /// All slots invalid, all sets of holders empty, the cache store all zeros, memory as lent, the boards' kinds and steal as chosen.
     pub fn cold(memory: &[u8], kinds: Kinds, steal: bool) -> Machine {
         let unit = |kind| Unit { kind, held: BTreeMap::new(), copies: [[0; BLOCK_BYTES]; SLOTS] };
-        Machine { units: kinds.map(unit).to_vec(), memory: lines(memory), steal }
+        Machine { units: kinds.map(unit).to_vec(), memory: lines(memory), steal, holders: vec![BTreeSet::new(); BLOCKS] }
     }
 
     /// The machine that directory and stores describe: tests 1, then 2.
@@ -151,8 +196,7 @@ impl Machine {
         if memory.len() != STORE_BYTES || cache.len() != STORE_BYTES {
             return Err(WRONG_SIZE);
         }
-        let (kinds, held) = units_of(directory).ok_or(BROKEN_DIRECTORY)?;
-        let steal = steal_of(directory[STEAL_PLACE].into()).ok_or(BROKEN_DIRECTORY)?;
+        let Directory { kinds, held, steal, holders } = contents(directory).ok_or(BROKEN_DIRECTORY)?;
         let copies = lines(cache);
         let units = kinds
             .into_iter()
@@ -160,7 +204,7 @@ impl Machine {
             .zip(copies.chunks_exact(SLOTS))
             .map(|((kind, held), copies)| Unit { kind, held, copies: copies.try_into().expect("sixteen slots") })
             .collect();
-        Ok(Machine { units, memory: lines(memory), steal })
+        Ok(Machine { units, memory: lines(memory), steal, holders })
     }
 
     pub fn directory(&self) -> Vec<u8> {
@@ -174,6 +218,9 @@ impl Machine {
             bytes[SET_PLACE] |= u8::from(unit.kind == Kind::WriteThrough) << number;
         }
         bytes[STEAL_PLACE] = self.steal.into();
+        for (place, units) in bytes[HOLDERS_PLACE..].iter_mut().zip(&self.holders) {
+            *place = set_of(units);
+        }
         bytes
     }
 
@@ -221,6 +268,30 @@ impl Machine {
         })
     }
 
+    /// A block's set and its count of holders.
+    pub fn holders(&self, block: u32) -> Result<Holders, u32> {
+        holders_of(&self.holders, block)
+    }
+
+    /// The unit comes to hold the block, or to hold it otherwise.
+    fn hold(&mut self, unit: usize, block: u32, held: Held) {
+        self.units[unit].held.insert(block, held);
+        self.holders[block as usize].insert(unit);
+    }
+
+    /// The unit does not hold the block any more, if it did.
+    fn release(&mut self, unit: usize, block: u32) {
+        self.units[unit].held.remove(&block);
+        self.holders[block as usize].remove(&unit);
+    }
+
+    /// No other unit than this one holds the block any more.
+    fn release_others(&mut self, unit: usize, block: u32) {
+        for other in (0..UNITS).filter(|&other| other != unit) {
+            self.release(other, block);
+        }
+    }
+
     fn modifier(&self, block: u32) -> Option<usize> {
         (0..UNITS).find(|&unit| self.units[unit].held.get(&block) == Some(&Held::ExclusiveModified))
     }
@@ -242,13 +313,8 @@ impl Machine {
             Some(Held::SharedUnmodified) => orders.push(order(unit, Command::Invalidate, block, false)),
             None => self.fetch(unit, block, Command::ModifiedRead, &mut orders),
         }
-        for (number, other) in self.units.iter_mut().enumerate() {
-            if number == unit {
-                other.held.insert(block, Held::ExclusiveModified);
-            } else {
-                other.held.remove(&block);
-            }
-        }
+        self.release_others(unit, block);
+        self.hold(unit, block, Held::ExclusiveModified);
         put(&mut self.units[unit].copies[slot_of(block)], offset, value);
         Reply { value: 0, orders }
     }
@@ -259,12 +325,9 @@ impl Machine {
         let mut orders = Vec::new();
         self.request(unit, Command::MemoryWrite, block, &mut orders);
         put(&mut self.memory[block as usize], offset, value);
-        for (number, other) in self.units.iter_mut().enumerate() {
-            if number != unit {
-                other.held.remove(&block);
-            } else if other.held.contains_key(&block) {
-                put(&mut other.copies[slot_of(block)], offset, value);
-            }
+        self.release_others(unit, block);
+        if self.units[unit].held.contains_key(&block) {
+            put(&mut self.units[unit].copies[slot_of(block)], offset, value);
         }
         Reply { value: 0, orders }
     }
@@ -274,7 +337,7 @@ impl Machine {
         if self.units[unit].held.get(&block) == Some(&Held::ExclusiveModified) {
             self.copyback(unit, block, &mut orders);
         }
-        self.units[unit].held.remove(&block);
+        self.release(unit, block);
         Reply { value: 0, orders }
     }
 
@@ -286,10 +349,10 @@ impl Machine {
             if held == Held::ExclusiveModified {
                 self.copyback(unit, old, orders);
             }
-            self.units[unit].held.remove(&old);
+            self.release(unit, old);
         }
         self.units[unit].copies[slot] = self.read(unit, command, block, orders);
-        self.units[unit].held.insert(block, Held::SharedUnmodified);
+        self.hold(unit, block, Held::SharedUnmodified);
     }
 
     /// The bytes that a read or modified read brings. With steal on a retried one is not given again: the bytes are those that pass
@@ -319,7 +382,7 @@ impl Machine {
     fn retry(&mut self, unit: usize, command: Command, block: u32, holder: usize, orders: &mut Vec<Order>) {
         orders.push(order(unit, command, block, true));
         self.copyback(holder, block, orders);
-        self.units[holder].held.insert(block, Held::SharedUnmodified);
+        self.hold(holder, block, Held::SharedUnmodified);
     }
 
     fn copyback(&mut self, unit: usize, block: u32, orders: &mut Vec<Order>) {
@@ -385,6 +448,26 @@ mod tests {
         machine.call(call).unwrap().orders
     }
 
+    /// A directory with this set of write-through units, these slots (number, state, block), and the sets of holders that they have.
+    fn directory_of(write_through: u8, slots: &[(usize, u8, u8)]) -> [u8; DIRECTORY_BYTES] {
+        let mut directory = [0; DIRECTORY_BYTES];
+        directory[128] = write_through;
+        for &(slot, state, block) in slots {
+            directory[2 * slot..2 * slot + 2].copy_from_slice(&[state, block]);
+            if let Some(set) = directory.get_mut(130 + block as usize).filter(|_| state != 0) {
+                *set |= [1, 2, 4, 8][slot / SLOTS];
+            }
+        }
+        directory
+    }
+
+    fn broken(directory: &[u8]) -> bool {
+        let store = [0; STORE_BYTES];
+        let (opened, asked) = (Machine::open(directory, &store, &store), holders_in(directory, 0));
+        assert_eq!(opened.err(), asked.err());
+        asked == Err(2)
+    }
+
     /// The valid slots: unit, state (1 SU, 2 EM), block.
     fn valid(machine: &Machine) -> Vec<(usize, u8, u8)> {
         let bytes = machine.directory();
@@ -422,9 +505,7 @@ mod tests {
         machine.call(load(0, 72)).unwrap();
         machine.call(load(3, 72)).unwrap();
         assert_eq!(machine.call(store(3, 72, 7)).unwrap().orders, [order(3, Invalidate, 2, false)]);
-        let mut directory = [0; DIRECTORY_BYTES];
-        directory[2 * (48 + 2)..2 * (48 + 2) + 2].copy_from_slice(&[2, 2]);
-        assert_eq!(machine.directory(), directory);
+        assert_eq!(machine.directory(), directory_of(0, &[(48 + 2, 2, 2)]));
     }
 
     #[test]
@@ -446,15 +527,7 @@ mod tests {
 
     #[test]
     fn what_breaks_a_directory() {
-        let store = [0; STORE_BYTES];
-        let broken = |places: &[(usize, u8, u8)]| {
-            let mut directory = [0; DIRECTORY_BYTES];
-            for &(slot, state, block) in places {
-                directory[2 * slot] = state;
-                directory[2 * slot + 1] = block;
-            }
-            Machine::open(&directory, &store, &store) == Err(2)
-        };
+        let broken = |slots: &[(usize, u8, u8)]| broken(&directory_of(0, slots));
         assert!(!broken(&[(2, 1, 18), (18, 1, 18), (34, 2, 2)]));
         assert!(broken(&[(2, 0, 2)]), "an invalid slot has block 0");
         assert!(broken(&[(2, 3, 2)]), "no such state");
@@ -466,16 +539,7 @@ mod tests {
 
     #[test]
     fn what_breaks_a_mixed_directory() {
-        let store = [0; STORE_BYTES];
-        let broken = |set: u8, places: &[(usize, u8, u8)]| {
-            let mut directory = [0; DIRECTORY_BYTES];
-            directory[128] = set;
-            for &(slot, state, block) in places {
-                directory[2 * slot] = state;
-                directory[2 * slot + 1] = block;
-            }
-            Machine::open(&directory, &store, &store) == Err(2)
-        };
+        let broken = |set: u8, slots: &[(usize, u8, u8)]| broken(&directory_of(set, slots));
         for unit in 0..UNITS {
             let slot = 16 * unit + 2;
             assert!(broken(1 << unit, &[(slot, 2, 18)]), "EM in write-through unit {unit}");
@@ -496,8 +560,7 @@ mod tests {
         directory[128] = 16;
         assert_eq!(Machine::open(&directory, &bytes[1..], &bytes), Err(1));
         assert_eq!(Machine::open(&directory, &bytes, &bytes), Err(2));
-        directory[128] = 1;
-        directory[0] = 2;
+        directory = directory_of(1, &[(0, 2, 0)]);
         assert_eq!(Machine::open(&directory, &bytes, &bytes[1..]), Err(1));
         assert_eq!(Machine::open(&directory, &bytes, &bytes), Err(2));
         directory[0] = 1;
@@ -756,8 +819,8 @@ mod tests {
         for number in [2, 3, 255, 256, 257, 1 << 31, u32::MAX] {
             assert_eq!(steal_of(number), None, "{number}");
         }
-        assert_eq!(mixed(5).directory()[SET_PLACE..], [5, 0]);
-        assert_eq!(stealing(5).directory()[SET_PLACE..], [5, 1]);
+        assert_eq!(mixed(5).directory()[128..130], [5, 0]);
+        assert_eq!(stealing(5).directory()[128..130], [5, 1]);
     }
 
     #[test]
@@ -765,18 +828,120 @@ mod tests {
         let bytes = [0; STORE_BYTES];
         let mut directory = [0; DIRECTORY_BYTES];
         for (set, number) in [0, 15, 16].into_iter().flat_map(|set| (0..=255).map(move |number| (set, number))) {
-            directory[128..].copy_from_slice(&[set, number]);
+            directory[128..130].copy_from_slice(&[set, number]);
             let opened = Machine::open(&directory, &bytes, &bytes);
             assert_eq!(opened.err(), (set > 15 || number > 1).then_some(2), "set {set}, steal {number}");
             assert_eq!(Machine::open(&directory, &bytes[1..], &bytes), Err(1));
         }
-        directory[128..].copy_from_slice(&[2, 1]);
+        directory[128..130].copy_from_slice(&[2, 1]);
         let mut machine = Machine::open(&directory, &bytes, &bytes).unwrap();
         assert_eq!(machine.call(load(4, 2)), Err(3));
         assert_eq!(machine.call(load(0, 2)), Err(4));
         for call in [store(0, 72, 9), load(2, 72), store(3, 72, 10), store(1, 72, 11), Call::Flush { unit: 0, block: 2 }] {
             machine.call(call).unwrap();
-            assert_eq!(machine.directory()[128..], [2, 1], "{call:?}");
+            assert_eq!(machine.directory()[128..130], [2, 1], "{call:?}");
         }
+    }
+
+    /// What a lamp shows of a block after each call: the set and the count, which the machine and its directory's bytes both give.
+    fn lamp(machine: &mut Machine, block: u32, calls: &[Call]) -> Vec<(u32, u32)> {
+        let shown = |call: &Call| {
+            machine.call(*call).unwrap();
+            let holders = machine.holders(block).unwrap();
+            assert_eq!(holders_in(&machine.directory(), block), Ok(holders), "{call:?}");
+            (holders.set, holders.count)
+        };
+        calls.iter().map(shown).collect()
+    }
+
+    /// Unit 3 stores as a copyback unit, as a write-through one, and where unit 1's load is then stolen. Block 18 has block 2's slot.
+    #[test]
+    fn a_lamp_follows_a_run() {
+        let flush = Call::Flush { unit: 1, block: 2 };
+        let calls = [load(0, 72), load(3, 72), store(3, 72, 9), load(1, 72), load(3, 584), flush];
+        for mut machine in [mixed(0), mixed(8), stealing(0), stealing(8)] {
+            assert_eq!((machine.holders(2), &machine.directory()[130..]), (Ok(Holders { set: 0, count: 0 }), &[0; BLOCKS][..]));
+            let mut other = machine.clone();
+            assert_eq!(lamp(&mut machine, 2, &calls), [(1, 1), (9, 2), (8, 1), (10, 2), (2, 1), (0, 0)]);
+            assert_eq!(lamp(&mut other, 18, &calls), [(0, 0), (0, 0), (0, 0), (0, 0), (8, 1), (8, 1)]);
+        }
+    }
+
+    #[test]
+    fn a_lamp_of_a_write_through_unit() {
+        let calls = [load(1, 72), load(0, 72), store(1, 72, 9), store(0, 72, 8), store(1, 72, 7), load(2, 72), store(1, 76, 6)];
+        let shown = [(2, 1), (3, 2), (2, 1), (1, 1), (0, 0), (4, 1), (0, 0)];
+        assert_eq!(lamp(&mut mixed(2), 2, &calls), shown);
+        assert_eq!(lamp(&mut stealing(2), 2, &calls), shown);
+    }
+
+    #[test]
+    fn a_lamp_of_stolen_blocks() {
+        let calls = [store(0, 72, 9), load(2, 72), store(2, 72, 8), store(1, 72, 7), store(1, 584, 6), load(3, 584)];
+        assert_eq!(lamp(&mut stealing(0), 2, &calls), [(1, 1), (5, 2), (4, 1), (2, 1), (0, 0), (0, 0)]);
+        assert_eq!(lamp(&mut stealing(0), 18, &calls), [(0, 0), (0, 0), (0, 0), (0, 0), (2, 1), (10, 2)]);
+    }
+
+    #[test]
+    fn a_refused_call_leaves_the_sets() {
+        let mut machine = cold();
+        machine.call(load(3, 72)).unwrap();
+        for (call, number) in [(load(4, 72), 3), (store(0, 74, 1), 4), (Call::Flush { unit: 3, block: 64 }, 4)] {
+            assert_eq!(machine.call(call), Err(number));
+            assert_eq!(machine.directory(), directory_of(0, &[(48 + 2, 1, 2)]));
+        }
+    }
+
+    /// All sixteen sets of SU holders of each block, and each unit EM.
+    #[test]
+    fn sets_and_counts() {
+        let counts = [0, 1, 1, 2, 1, 2, 2, 3, 1, 2, 2, 3, 2, 3, 3, 4];
+        for (block, set) in (0..BLOCKS as u8).flat_map(|block| (0..16u32).map(move |set| (block, set))) {
+            let slot = |unit: usize| 16 * unit + block as usize % 16;
+            let units = (0..UNITS).filter(|unit| [1, 2, 4, 8][*unit] & set != 0);
+            let slots: Vec<(usize, u8, u8)> = units.map(|unit| (slot(unit), 1, block)).collect();
+            let directory = directory_of(0, &slots);
+            assert_eq!(holders_in(&directory, block.into()), Ok(Holders { set, count: counts[set as usize] }), "{set} of block {block}");
+            assert_eq!(holders_in(&directory, (u32::from(block) + 16) % 64), Ok(Holders { set: 0, count: 0 }));
+            if let [(slot, _, _)] = slots[..] {
+                assert_eq!(holders_in(&directory_of(0, &[(slot, 2, block)]), block.into()), Ok(Holders { set, count: 1 }));
+            }
+        }
+    }
+
+    /// Of all bytes in the place of a block's set the true one alone is accepted.
+    #[test]
+    fn a_set_that_differs_from_the_slots() {
+        // Block 2 in units 0 and 3, block 18 in unit 1, block 63 EM in unit 2.
+        let good = directory_of(0, &[(2, 1, 2), (48 + 2, 1, 2), (16 + 2, 1, 18), (32 + 15, 2, 63)]);
+        assert_eq!([2, 18, 63].map(|block| good[130 + block]), [9, 2, 4]);
+        for (block, set) in (0..BLOCKS).flat_map(|block| (0..=255).map(move |set| (block, set))) {
+            let mut directory = good;
+            directory[130 + block] = set;
+            assert_eq!(broken(&directory), directory != good, "{set} of block {block}");
+        }
+        let mut exchanged = good;
+        exchanged.swap(130 + 2, 130 + 18);
+        assert!(broken(&exchanged), "the sets of two blocks exchanged");
+    }
+
+    #[test]
+    fn refusals_of_holders() {
+        let good = directory_of(2, &[(0, 1, 0), (63, 2, 63)]);
+        assert_eq!(holders_in(&good, 0), Ok(Holders { set: 1, count: 1 }));
+        assert_eq!(holders_in(&good, 63), Ok(Holders { set: 8, count: 1 }));
+        let machine = Machine::open(&good, &[0; STORE_BYTES], &[0; STORE_BYTES]).unwrap();
+        for block in [64, 127, 255, 256, 319, 1 << 31, u32::MAX - 63, u32::MAX] {
+            assert_eq!((holders_in(&good, block), machine.holders(block)), (Err(4), Err(4)), "{block}");
+        }
+        for (place, byte) in [(1, 16), (64, 3), (128, 8), (128, 16), (129, 2), (130, 0), (193, 24)] {
+            let mut directory = good;
+            directory[place] = byte;
+            assert_eq!([0, 64].map(|block| holders_in(&directory, block)), [Err(2); 2], "{byte} at {place}");
+        }
+        for length in [0, 130, 193] {
+            assert_eq!(holders_in(&good[..length], 64), Err(2), "{length} bytes");
+        }
+        assert_eq!(holders_in(&[0; DIRECTORY_BYTES + 1], 0), Err(2));
     }
 }

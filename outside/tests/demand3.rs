@@ -1,7 +1,7 @@
 //! Demand 3 on the second implementation alone, for every set of write-through boards, with steal on and off: the machine accepts the calls that the plain
-//! memory accepts, each load answers its number, no block is EM in one unit and held by another, and the orders are at most the loads and three times the
-//! stores, with steal on twice the stores.
-use outside::machine::{kinds_of, Call, Command, Machine, Newest, Order, Reply, BLOCKS, STORE_BYTES};
+//! memory accepts, each load answers its number, no block is EM in one unit and held by another, the sets of holders are those that the slots have, and the
+//! orders are at most the loads and three times the stores, with steal on twice the stores.
+use outside::machine::{kinds_of, Call, Command, Holders, Machine, Newest, Order, Reply, BLOCKS, HOLDERS_PLACE, STORE_BYTES};
 use outside::random::Random;
 use std::collections::BTreeSet;
 
@@ -63,6 +63,23 @@ fn exclusive(directory: &[u8], set: u32) -> bool {
     slots.iter().all(|&(unit, modified, block)| !modified || (set >> unit & 1 == 0 && alone(unit, block)))
 }
 
+/// The set of a block's holders and their count, by the valid slots.
+fn holders(slots: &[(usize, bool, u8)], block: u8) -> Holders {
+    let units: BTreeSet<usize> = slots.iter().filter(|(_, _, held)| *held == block).map(|(unit, _, _)| *unit).collect();
+    Holders { set: units.iter().map(|unit| [1, 2, 4, 8][*unit]).sum(), count: units.len() as u32 }
+}
+
+/// The sets that the machine keeps and tells, and those in the directory's bytes, are those of the slots. Gives the sets of all blocks.
+fn true_sets(machine: &Machine, directory: &[u8]) -> Option<Vec<u32>> {
+    let slots = valid(directory);
+    let sets = (0..BLOCKS as u8).map(|block| {
+        let found = holders(&slots, block);
+        let kept = (u32::from(directory[HOLDERS_PLACE + block as usize]), machine.holders(block.into()));
+        (kept == (found.set, Ok(found))).then_some(found.set)
+    });
+    sets.collect()
+}
+
 /// The newest bytes of every block.
 fn newest(machine: &Machine) -> Vec<u8> {
     let (memory, cache) = (machine.memory(), machine.cache());
@@ -84,13 +101,13 @@ fn retried(orders: &[Order], steal: bool) -> Option<Command> {
     Some(again.command)
 }
 
-/// One list of calls after a cold start; gives the numbers of the commands that were retried.
-fn list(seed: u64, set: u32, steal: bool) -> BTreeSet<u32> {
+/// One list of calls after a cold start; gives the numbers of the commands that were retried, and the sets of holders that were met.
+fn list(seed: u64, set: u32, steal: bool) -> (BTreeSet<u32>, BTreeSet<u32>) {
     let mut random = Random::new(seed);
     let memory: Vec<u8> = (0..STORE_BYTES).map(|_| random.byte()).collect();
     let mut machine = Machine::cold(&memory, kinds_of(set).expect("a set below 16"), steal);
     let mut plain = Plain { bytes: memory, loads: 0, stores: 0 };
-    let (mut given, mut commands) = (0, BTreeSet::new());
+    let (mut given, mut commands, mut sets) = (0, BTreeSet::new(), BTreeSet::new());
     for step in 0..1_000 {
         let call = random_call(&mut random);
         let reply = machine.call(call);
@@ -100,21 +117,30 @@ fn list(seed: u64, set: u32, steal: bool) -> BTreeSet<u32> {
         given += orders.len();
         commands.extend(retried(&orders, steal).map(|command| command as u32));
         assert!(given <= plain.bill(steal), "{context}: {given} orders");
-        assert!(exclusive(&machine.directory(), set), "{context}");
+        let directory = machine.directory();
+        assert!(exclusive(&directory, set), "{context}");
+        sets.extend(true_sets(&machine, &directory).expect(&context));
         assert_eq!(newest(&machine), plain.bytes, "{context}");
     }
-    commands
+    (commands, sets)
 }
 
-/// A read is retried where there is a copyback board, a modified read where there are two, a memory write where there are boards of both kinds.
+/// A read is retried where there is a copyback board, a modified read where there are two, a memory write where there are boards of both kinds. Some block
+/// comes to be held by each set of units.
 #[test]
 fn every_setting() {
     for (set, steal) in (0..32).map(|n| (n / 2, n % 2 == 1)) {
-        let commands: BTreeSet<u32> = (0..4).flat_map(|n| list(7_000_000 + 16 * n + u64::from(set), set, steal)).collect();
+        let (mut commands, mut sets) = (BTreeSet::new(), BTreeSet::new());
+        for n in 0..4 {
+            let (more_commands, more_sets) = list(7_000_000 + 16 * n + u64::from(set), set, steal);
+            commands.extend(more_commands);
+            sets.extend(more_sets);
+        }
         let copyback = 4 - set.count_ones();
         let rows = [(Command::Read, 1..=4), (Command::ModifiedRead, 2..=4), (Command::MemoryWrite, 1..=3)];
         let expected = rows.into_iter().filter(|(_, counts)| counts.contains(&copyback)).map(|(command, _)| command as u32).collect();
         assert_eq!(commands, expected, "set {set}, steal {steal}");
+        assert_eq!(sets, (0..16).collect(), "set {set}, steal {steal}");
     }
 }
 

@@ -5,7 +5,8 @@ mod common;
 use common::{code_of, same, Counts};
 use outside::archive::{self, ANSWER_NUMBERS, RECORD_NUMBERS};
 use outside::drill::{drill, LONGEST_TAPE};
-use outside::machine::{kinds_of, steal_of, Call, Machine, Newest, Reply, DIRECTORY_BYTES, SET_PLACE, STEAL_PLACE, STORE_BYTES};
+use outside::machine::{holders_in, kinds_of, steal_of, Call, Holders, Machine, Newest, Reply};
+use outside::machine::{BLOCKS, DIRECTORY_BYTES, HOLDERS_PLACE, SET_PLACE, STEAL_PLACE, STORE_BYTES};
 use outside::random::Random;
 use outside::tape::{self, Found, Record};
 use std::collections::{BTreeMap, BTreeSet};
@@ -67,12 +68,26 @@ impl Lent {
         let code = archive::peek(&self.directory, &self.memory, &self.cache, block, &mut store, &mut offset);
         (code, store, offset)
     }
+
+    /// The number of the call for a block's holders, and the set and the count that it left in the lent numbers.
+    fn holders(&self, block: u32) -> (u32, u32, u32) {
+        let (mut set, mut count) = (UNTOUCHED, UNTOUCHED);
+        let code = archive::holders(&self.directory, block, &mut set, &mut count);
+        (code, set, count)
+    }
 }
 
 fn peeked(newest: Result<Newest, u32>) -> (u32, u32, u32) {
     match newest {
         Ok(Newest::Memory { offset }) => (0, 0, offset as u32),
         Ok(Newest::Cache { offset }) => (0, 1, offset as u32),
+        Err(code) => (code, UNTOUCHED, UNTOUCHED),
+    }
+}
+
+fn told(holders: Result<Holders, u32>) -> (u32, u32, u32) {
+    match holders {
+        Ok(Holders { set, count }) => (0, set, count),
         Err(code) => (code, UNTOUCHED, UNTOUCHED),
     }
 }
@@ -121,7 +136,7 @@ fn cold_pair(random: &mut Random, settings: Settings) -> (Lent, Machine) {
     (lent, machine)
 }
 
-/// One call both ways, and a peek after it; gives the call's answer.
+/// One call both ways, and after it a peek at a block and its holders; gives the call's answer.
 fn call_both(counts: &mut Counts, lent: &mut Lent, machine: &mut Machine, call: Call, block: u32, at: (u64, u32)) -> Result<Reply, u32> {
     let reply = machine.call(call);
     let code = lent.call(call);
@@ -135,7 +150,16 @@ fn call_both(counts: &mut Counts, lent: &mut Lent, machine: &mut Machine, call: 
     let seen = lent.peek(block);
     same("a peek", &(at, block), seen, peeked(machine.peek(block)));
     counts.one("peeks", seen.0);
+    holders_both(counts, lent, machine, block, at);
     reply
+}
+
+/// A block's holders both ways; gives the number, the set and the count.
+fn holders_both(counts: &mut Counts, lent: &Lent, machine: &Machine, block: u32, at: (u64, u32)) -> (u32, u32, u32) {
+    let shown = lent.holders(block);
+    same("a block's holders", &(at, block), shown, told(machine.holders(block)));
+    counts.one("holders", shown.0);
+    shown
 }
 
 /// How many orders accepted loads and stores gave: by steal, whether it was a store, and whether of a write-through unit.
@@ -188,6 +212,40 @@ fn lists_of_calls(counts: &mut Counts) {
     same("the counts of orders by steal, store and write-through unit", &"", met, expected);
 }
 
+/// A lamp for each block, and for one that is none, after each call of a list with these settings. Gives all that the lamps showed.
+fn lamps_of_a_list(counts: &mut Counts, seed: u64, settings: Settings) -> BTreeSet<(u32, u32, u32)> {
+    let mut random = Random::new(8_000_000 + seed);
+    let (mut lent, mut machine) = cold_pair(&mut random, settings);
+    let mut shown = BTreeSet::new();
+    for step in 0..2_000 {
+        let call = random_call(&mut random, 2);
+        let _ = call_both(counts, &mut lent, &mut machine, call, random.below(70), (seed, step));
+        shown.extend((0..=BLOCKS as u32).map(|block| holders_both(counts, &lent, &machine, block, (seed, step))));
+    }
+    shown
+}
+
+/// With each of the 32 settings the lamps show all sixteen sets.
+fn lamps(counts: &mut Counts) {
+    let mut expected: BTreeSet<(u32, u32, u32)> = (0..16u32).map(|set| (0, set, set.count_ones())).collect();
+    expected.insert((4, UNTOUCHED, UNTOUCHED));
+    for settings in (0..32).map(|n| (n / 2, n % 2)) {
+        let shown = lamps_of_a_list(counts, u64::from(2 * settings.0 + settings.1), settings);
+        same("what the lamps of a list showed", &settings, shown, expected.clone());
+    }
+}
+
+/// Puts the sets of holders into the directory that its slots have: of each block the units with a slot that has it, and another state than 0.
+fn put_sets(directory: &mut [u8]) {
+    let (slots, sets) = directory.split_at_mut(HOLDERS_PLACE);
+    sets.fill(0);
+    for (number, slot) in slots[..SET_PLACE].chunks_exact(2).enumerate() {
+        if let Some(set) = sets.get_mut(usize::from(slot[1])).filter(|_| slot[0] != 0) {
+            *set |= 1 << (number / 16);
+        }
+    }
+}
+
 /// A directory that keeps the rules, with many blocks in several units.
 fn sound_directory(random: &mut Random) -> Vec<u8> {
     let mut bytes = vec![0; DIRECTORY_BYTES];
@@ -211,6 +269,7 @@ fn sound_directory(random: &mut Random) -> Vec<u8> {
             }
         }
     }
+    put_sets(&mut bytes);
     bytes
 }
 
@@ -221,12 +280,28 @@ fn random_size(random: &mut Random, right: usize) -> usize {
     }
 }
 
+/// Changes the sets of holders of one block or of two: a unit more or less, the weights reversed, the set of another block, anything.
+fn damage_sets(random: &mut Random, sets: &mut [u8]) {
+    let block = |random: &mut Random| random.below(BLOCKS as u32) as usize;
+    let (one, other) = (block(random), block(random));
+    match random.below(8) {
+        0 => sets[one] = random.byte(),
+        1 => sets[one] = random.below(20) as u8,
+        2 => sets[one] ^= 1 << random.below(8),
+        3 => sets[one] = sets[one].reverse_bits() >> 4,
+        4 => sets[one] = 0,
+        5 => sets.swap(one, other),
+        6 => sets.swap(one, (one + 16) % BLOCKS),
+        _ => sets[one] = sets[other],
+    }
+}
+
 /// A directory that mostly keeps the rules, else with some bytes that are anything, with an EM slot in any unit, with any set of write-through units, above
-/// 15 too, with any steal, above 1 too, or of another size.
+/// 15 too, with any steal, above 1 too, with damaged sets of holders, or of another size. Changed slots mostly have their sets.
 fn random_directory(random: &mut Random) -> Vec<u8> {
     let mut directory = sound_directory(random);
     for _ in 0..random.pick(&[0, 0, 0, 1, 1, 2, 8]) {
-        let at = random.below(DIRECTORY_BYTES as u32) as usize;
+        let at = random.below(HOLDERS_PLACE as u32) as usize;
         directory[at] = if random.one_in(2) { random.below(4) as u8 } else { random.byte() % 80 };
     }
     match random.below(60) {
@@ -240,6 +315,12 @@ fn random_directory(random: &mut Random) -> Vec<u8> {
         7 => directory[STEAL_PLACE] = random.byte(),
         8 | 9 => directory[STEAL_PLACE] = random.below(4) as u8,
         _ => {}
+    }
+    if !random.one_in(8) {
+        put_sets(&mut directory);
+    }
+    if random.one_in(4) {
+        damage_sets(random, &mut directory[HOLDERS_PLACE..]);
     }
     let size = random_size(random, DIRECTORY_BYTES);
     directory.resize(size, 0);
@@ -261,11 +342,36 @@ fn settings_in(directory: &[u8]) -> Option<(&'static str, u8)> {
     Some((kinds, directory[STEAL_PLACE].min(2)))
 }
 
-/// A single call, and a peek before it, on any directory and stores of any size. Gives what the directory has of the settings, and the call's number.
-fn single_call(counts: &mut Counts, seed: u64) -> Option<((&'static str, u8), u32)> {
+/// What a directory of the right size, which breaks no other rule, has of the sets of holders: true ones, or how the first that differs does.
+fn sets_in(directory: &[u8]) -> Option<&'static str> {
+    let mut sound = directory.to_vec();
+    put_sets(sound.get_mut(..DIRECTORY_BYTES)?);
+    holders_in(&sound, 0).ok()?;
+    let (kept, found) = (&directory[HOLDERS_PLACE..], &sound[HOLDERS_PLACE..]);
+    let differs = kept.iter().zip(found).find(|(kept, found)| kept != found);
+    Some(match differs {
+        None => "true sets",
+        Some((16.., _)) => "a set above 15",
+        Some((kept, found)) if kept & found == *kept => "a holder is missing",
+        Some((kept, found)) if kept & found == *found => "a unit too many",
+        Some(_) => "another unit",
+    })
+}
+
+/// What was met in a single call: of the directory the settings and the sets, of the calls the numbers.
+struct Single {
+    settings: Option<(&'static str, u8)>,
+    sets: Option<&'static str>,
+    call: u32,
+    peek: u32,
+    holders: u32,
+}
+
+/// A single call, and before it a peek and a block's holders, on any directory and stores of any size.
+fn single_call(counts: &mut Counts, seed: u64) -> Single {
     let mut random = Random::new(1_000_000 + seed);
     let directory = random_directory(&mut random);
-    let settings = settings_in(&directory);
+    let (settings, sets) = (settings_in(&directory), sets_in(&directory));
     let mut store = || {
         let size = random_size(&mut random, STORE_BYTES);
         let (seed, step) = (random.byte(), random.byte() | 1);
@@ -283,6 +389,9 @@ fn single_call(counts: &mut Counts, seed: u64) -> Option<((&'static str, u8), u3
     let seen = lent.peek(block);
     same("a peek", &(seed, block, &lent), seen, peeked(opened.clone().and_then(|machine| machine.peek(block))));
     counts.one("peeks", seen.0);
+    let shown = lent.holders(block);
+    same("a block's holders", &(seed, block, &lent), shown, told(holders_in(&lent.directory, block)));
+    counts.one("holders", shown.0);
 
     let code = lent.call(call);
     let mut after = room.and_then(|()| opened);
@@ -296,17 +405,60 @@ fn single_call(counts: &mut Counts, seed: u64) -> Option<((&'static str, u8), u3
     };
     same("what a call leaves", &context, (lent.directory, lent.memory, lent.cache), left);
     counts.one(name(call), code);
-    settings.map(|settings| (settings, code))
+    Single { settings, sets, call: code, peek: seen.0, holders: shown.0 }
 }
 
 fn single_calls(counts: &mut Counts) {
-    let met: BTreeSet<((&str, u8), u32)> = (0..120_000).filter_map(|seed| single_call(counts, seed)).collect();
+    let all: Vec<Single> = (0..120_000).map(|seed| single_call(counts, seed)).collect();
+    settings_met(&all);
+    sets_met(&all);
+}
+
+/// Which numbers calls gave by the sets of holders, where the directory breaks no other rule: 2 with each that differs, and never with true ones.
+fn sets_met(all: &[Single]) {
+    type Numbers = [&'static [u32]; 3];
+    let (kept, broken): (Numbers, Numbers) = ([&[0, 1, 3, 4, 9], &[0, 1, 4], &[0, 4]], [&[1, 2, 9], &[1, 2], &[2]]);
+    for what in ["true sets", "a set above 15", "a holder is missing", "a unit too many", "another unit"] {
+        let expected = if what == "true sets" { kept } else { broken };
+        let of_it = || all.iter().filter(|single| single.sets == Some(what));
+        let calls: [fn(&Single) -> u32; 3] = [|single| single.call, |single| single.peek, |single| single.holders];
+        for (number, expected) in calls.into_iter().zip(expected) {
+            let met: BTreeSet<u32> = of_it().map(number).collect();
+            same("the numbers of calls, peeks and holders by the sets in the directory", &what, met, expected.iter().copied().collect());
+        }
+    }
+}
+
+/// Which numbers calls gave by the settings in the directory.
+fn settings_met(all: &[Single]) {
+    let met: BTreeSet<((&str, u8), u32)> = all.iter().filter_map(|single| Some((single.settings?, single.call))).collect();
     let codes = |settings: (&str, u8)| met.iter().filter(|(what, _)| *what == settings).map(|(_, code)| *code).collect::<Vec<u32>>();
     let (any, broken): (&[u32], &[u32]) = (&[0, 1, 2, 3, 4, 9], &[1, 2, 9]);
     let sound = [("copyback boards", any), ("boards of both kinds", any), ("write-through boards", any)];
     for (kinds, numbers) in sound.into_iter().chain([("an EM slot of a write-through unit", broken), ("a unit above 3", broken)]) {
         for (steal, numbers) in [(0, numbers), (1, numbers), (2, broken)] {
             same("the numbers of refusal by the settings in the directory", &(kinds, steal), codes((kinds, steal)), numbers.to_vec());
+        }
+    }
+}
+
+/// Every byte in the place of each block's set, in some directories that keep the rules: the true one alone is accepted, by each call.
+fn every_set(counts: &mut Counts) {
+    for seed in 0..4 {
+        let mut random = Random::new(9_000_000 + seed);
+        let directory = sound_directory(&mut random);
+        let sound = Lent { directory, memory: vec![1; STORE_BYTES], cache: vec![2; STORE_BYTES], answer: vec![0; ANSWER_NUMBERS] };
+        for (block, set) in (0..BLOCKS).flat_map(|block| (0..=255u8).map(move |set| (block, set))) {
+            let (mut lent, asked) = (sound.clone(), random.below(BLOCKS as u32));
+            lent.directory[HOLDERS_PLACE + block] = set;
+            let expected = if lent.directory == sound.directory { 0 } else { 2 };
+            let shown = lent.holders(asked);
+            same("a block's holders", &(seed, block, set, asked), shown, told(holders_in(&lent.directory, asked)));
+            let address = 32 * asked;
+            let calls = [Call::Load { unit: 0, address }, Call::Store { unit: 1, address, value: 3 }, Call::Flush { unit: 2, block: asked }];
+            let codes = [shown.0, lent.peek(asked).0].into_iter().chain(calls.map(|call| lent.clone().call(call)));
+            same("the numbers of all calls by one set", &(seed, block, set), codes.collect(), vec![expected; 5]);
+            counts.one("bytes in the place of a set", expected);
         }
     }
 }
@@ -689,7 +841,9 @@ fn drills(counts: &mut Counts) {
 fn main() {
     let mut counts = Counts::default();
     lists_of_calls(&mut counts);
+    lamps(&mut counts);
     single_calls(&mut counts);
+    every_set(&mut counts);
     cold_starts(&mut counts);
     tapes(&mut counts);
     drills(&mut counts);
@@ -698,6 +852,7 @@ fn main() {
     let calls: u64 = ["loads", "stores", "flushes"].iter().map(|what| counts.compared[what]).sum();
     let access: &[u32] = &[0, 1, 2, 3, 4, 9];
     counts.expect(&[("cold starts", &[0, 1, 3, 8, 9]), ("loads", access), ("stores", access), ("flushes", access), ("peeks", &[0, 1, 2, 4])]);
+    counts.expect(&[("holders", &[0, 2, 4]), ("bytes in the place of a set", &[0, 2])]);
     counts.expect(&[("records read", &[0, 5, 6, 7, 8, 9]), ("records written", &[0, 7, 8, 9]), ("drills", &[0, 9])]);
     counts.expect(&[("sizes of records", &[0, 7, 8]), ("ends of a drill's text", &[0, 5, 6, 7, 8, 9])]);
     at_borders.expect(&[("records read", &[0, 5, 6, 7, 8]), ("sizes of records", &[0, 7, 8]), ("records written", &[0, 7, 8, 9])]);

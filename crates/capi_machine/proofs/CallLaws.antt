@@ -1,11 +1,12 @@
 -- What a call through the C interface answers and leaves, put together from what the machine answers and what is handed over.
 use mathlib.Core.Path.{_≡_, refl, sym, ap, _∙_}
 use mathlib.Core.Bool.{Bool, true, false, cond}
-use mathlib.Core.List.{List, _++_}
+use mathlib.Core.List.{List, [], _++_, append-nil}
 use Prim.Native.Nat.{ℕ, _≤_, _<_}
 use native.Mathlib.Omega.{arith}
 use lib.Dec.{leb, eqb}
-use lib.ListN.{length, drop}
+use lib.ListN.{length, take, drop}
+use lib.Seq.{drop-length}
 use borrow.Author.Tests.{le-leb, lt-leb, eqb-true, eq-eqb, ne-eqb}
 use Rattle.coherence.specs.declared.Call.{Call}
 use Rattle.coherence.specs.declared.Answer.{Answer}
@@ -18,11 +19,12 @@ use Rattle.coherence.specs.Calls.{refusal, after, answer, memoryAfter, cacheAft
 use Rattle.coherence.specs.Demand3.{Answered}
 use Rattle.coherence.proofs.Counts.{answers-orders}
 use Rattle.coherence.proofs.Shapes.{answer-settings}
-use Rattle.layout.specs.Directory.{directorySize, decoded, encoded, slotBytes, settingsBytes, slotsPut}
+use Rattle.layout.specs.Directory.{directorySize, decoded, frontBytes, encoded, slotBytes, settingsBytes, leftPut}
 use Rattle.layout.specs.Answer.{answerNumbers, answerPut}
 use Rattle.crossing.proofs.CappedLaws.{caps}
 use Rattle.capi_machine.specs.Call.{Narrows, returned, directoryLeft, memoryLeft, cacheLeft, answerLeft, RefusedLeaves}
-use Rattle.layout.proofs.Inverse.{inverse, length-encoded, settings-kept}
+use Rattle.layout.proofs.Inverse.{inverse, length-encoded, settings-kept, sets-decoded}
+use Rattle.layout.proofs.DirectoryLaws.{left-is}
 
 pub narrows : Narrows
 unfolding isUnit isBlock
@@ -35,7 +37,7 @@ narrows =
 
 -- bytes that the machine takes for a directory are as many as one has
 pub sound-size : (d : List ℕ) → sound (decoded d) ≡ true → length d ≡ directorySize
-sound-size d t = ap length (sym (inverse .forth d t)) ∙ length-encoded (decoded d)
+sound-size d t = ap length (sym (inverse .forth d t)) ∙ length-encoded (decoded d) (sets-decoded d)
 
 second-passes : (a b : Bool) (x : ℕ) → cond a (cond b x 2) 1 ≡ 0 → b ≡ true
 second-passes true true x e = refl
@@ -75,13 +77,15 @@ refusal-of : (d m k : List ℕ) (c : Call) → answer (decoded d) m k c .refusal
 unfolding answer
 refusal-of d m k c = refl
 
--- an accepted answer has room, and what stands behind the slots are its settings
-put-slots : (x : Directory) (d : List ℕ) → length d ≡ directorySize → drop 128 d ≡ settingsBytes (x .settings) → slotsPut x d ≡ encoded x
-unfolding slotsPut encoded
-put-slots x d e h = rw (le-leb directorySize (length d) (omega arith)) (ap (λ (t : List ℕ). slotBytes 64 x ++ t) h)
+-- an accepted answer has room, and the settings that are left are its own
+put-left : (x : Directory) (d : List ℕ) → length d ≡ directorySize → take 2 (drop 128 d) ≡ settingsBytes (x .settings) → leftPut x d ≡ encoded x
+unfolding encoded frontBytes
+put-left x d e h =
+    let n : drop directorySize d ≡ [] = ap (λ (k : ℕ). drop k d) (sym e) ∙ drop-length d in
+    left-is x d (omega arith) ∙ rw (h, n) (append-nil (slotBytes 64 x ++ settingsBytes (x .settings) ++ x .holders))
 
 -- the settings of an accepted answer are those that the bytes spell
-settings-stay : (d m k : List ℕ) (c : Call) → refusal (decoded d) m k c ≡ 0 → drop 128 d ≡ settingsBytes (answer (decoded d) m k c .directory .settings)
+settings-stay : (d m k : List ℕ) (c : Call) → refusal (decoded d) m k c ≡ 0 → take 2 (drop 128 d) ≡ settingsBytes (answer (decoded d) m k c .directory .settings)
 unfolding refusal
 settings-stay d m k c e =
     settings-kept d (accepted-sound (decoded d) m k (unitOf c) (isTarget c) e) ∙ ap settingsBytes (sym (answer-settings (decoded d) m k c))
@@ -93,7 +97,7 @@ put-answer r a h few = rw (le-leb 18 (length a) h, le-leb (r .orders .count) 4 f
 handed-over : (d m k a : List ℕ) (c : Call) (r : Answer) (code : ℕ) (d′ m′ k′ a′ : List ℕ)
     → Answered (decoded d) m k c r m′ k′ → 18 ≤ length a
     → (code ≡ r .refusal)
-    × (d′ ≡ cond (eqb (r .refusal) 0) (slotsPut (r .directory) d) d)
+    × (d′ ≡ cond (eqb (r .refusal) 0) (leftPut (r .directory) d) d)
     × (a′ ≡ cond (eqb (r .refusal) 0) (answerPut r a) a)
     → Left d m k a c code d′ m′ k′ a′
 unfolding returned directoryLeft memoryLeft cacheLeft answerLeft
@@ -105,7 +109,7 @@ handed-over d m k a c r code d′ m′ k′ a′ s h t = go (eqb (refusal (decod
     n : r .refusal ≡ refusal (decoded d) m k c
     n = ap (λ (x : Answer). x .refusal) (s .answers) ∙ refusal-of d m k c
 
-    behind : refusal (decoded d) m k c ≡ 0 → drop 128 d ≡ settingsBytes (r .directory .settings)
+    behind : refusal (decoded d) m k c ≡ 0 → take 2 (drop 128 d) ≡ settingsBytes (r .directory .settings)
     behind e = settings-stay d m k c e ∙ ap (λ (x : Answer). settingsBytes (x .directory .settings)) (sym (s .answers))
 
     go : (b : Bool) → eqb (refusal (decoded d) m k c) 0 ≡ b → Left d m k a c code d′ m′ k′ a′
@@ -114,7 +118,7 @@ handed-over d m k a c r code d′ m′ k′ a′ s h t = go (eqb (refusal (decod
         let size : length d ≡ directorySize = accepted-size d m k c (eqb-true _ 0 q) in
         record {
           code = rw l (t .0 ∙ n);
-          directory = rw (l, q) ((rw test at (t .1)) ∙ put-slots (r .directory) d size (behind (eqb-true _ 0 q)) ∙ ap (λ (x : Answer). encoded (x .directory)) (s .answers));
+          directory = rw (l, q) ((rw test at (t .1)) ∙ put-left (r .directory) d size (behind (eqb-true _ 0 q)) ∙ ap (λ (x : Answer). encoded (x .directory)) (s .answers));
           memory = rw (l, q) (s .memory);
           cache = rw (l, q) (s .cache);
           answer = rw (l, q) ((rw test at (t .2)) ∙ put-answer r a h (rw (s .answers) (answers-orders (decoded d) m k c .few)) ∙ ap (λ (x : Answer). answerNumbers x ++ drop 18 a) (s .answers));
@@ -131,7 +135,7 @@ handed-over d m k a c r code d′ m′ k′ a′ s h t = go (eqb (refusal (decod
 
 -- an accepted answer, handed over
 pub accepted-over : (d m k a : List ℕ) (c : Call) (r : Answer) (d′ m′ k′ a′ : List ℕ)
-    → Answered (decoded d) m k c r m′ k′ → 18 ≤ length a → r .refusal ≡ 0 → d′ ≡ slotsPut (r .directory) d → a′ ≡ answerPut r a
+    → Answered (decoded d) m k c r m′ k′ → 18 ≤ length a → r .refusal ≡ 0 → d′ ≡ leftPut (r .directory) d → a′ ≡ answerPut r a
     → Left d m k a c 0 d′ m′ k′ a′
 accepted-over d m k a c r d′ m′ k′ a′ s h e p q =
     let t : eqb (r .refusal) 0 ≡ true = eq-eqb (r .refusal) 0 e in

@@ -14,10 +14,10 @@ use Rattle.coherence.specs.Access.{ready}
 use Rattle.coherence.specs.Calls.{refusal, answer, memoryAfter, cacheAfter, answers, afterAll}
 use Rattle.coherence.specs.declared.Settings.{Settings}
 use Rattle.coherence.proofs.Counts.{refused}
-use Rattle.coherence.proofs.Shapes.{answer-slots, answer-settings}
+use Rattle.coherence.proofs.Shapes.{answer-slots, answer-settings, answer-sets}
 use Rattle.layout.specs.Directory.{decoded}
 use Rattle.layout.specs.Answer.{answerNumbers}
-use Rattle.layout.proofs.Inverse.{inverse, length-decoded, boards-decoded}
+use Rattle.layout.proofs.Inverse.{inverse, length-decoded, boards-decoded, sets-decoded}
 use Rattle.layout.proofs.AnswerLaws.{length-answer}
 use Rattle.capi_machine.specs.Call.{returned, directoryLeft, memoryLeft, cacheLeft, answerLeft}
 use Rattle.capi_machine.specs.Follow.{Lent, called, calledAll, Heard, heard, heardAll, told, Follows, FollowsOn}
@@ -53,7 +53,7 @@ step w c h = go (eqb (refusal d m k c) 0) refl
         record {
           hears = rw (l, q) (ap (λ (x : List ℕ). record { number = refusal d m k c; answer = x }) (take-at r (drop 18 (w .answer)) 18 size));
           directory = rw (l, q) (inverse .back (answer d m k c .directory) (answer-slots d m k c ∙ length-decoded (w .directory))
-              (ap (λ (g : Settings). length (g .boards)) (answer-settings d m k c) ∙ boards-decoded (w .directory)));
+              (ap (λ (g : Settings). length (g .boards)) (answer-settings d m k c) ∙ boards-decoded (w .directory)) (answer-sets d m k c (sets-decoded (w .directory))));
           memory = rw (l, q);
           cache = rw (l, q);
           room = rw (l, q) (simp length-append (omega arith));

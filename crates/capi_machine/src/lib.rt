@@ -2,7 +2,7 @@
 // numbers. Each function is total, and a refused call writes nothing but what its contract says.
 use crossing::byte;
 use layout::decode;
-use layout::encode_slots;
+use layout::encode_left;
 use layout::put_answer;
 use order::NO_ROOM;
 use slots::owner;
@@ -30,7 +30,7 @@ pub extern "C" fn trainer_load(
     let a = machine::load(d, memory, cache, byte(unit as u64), address);
     if a.refusal == 0 {
         let left = a.directory;
-        encode_slots(left, directory);
+        encode_left(left, directory);
         put_answer(a, answer);
         return 0;
     }
@@ -57,7 +57,7 @@ pub extern "C" fn trainer_store(
     let a = machine::store(d, memory, cache, byte(unit as u64), address, value);
     if a.refusal == 0 {
         let left = a.directory;
-        encode_slots(left, directory);
+        encode_left(left, directory);
         put_answer(a, answer);
         return 0;
     }
@@ -83,7 +83,7 @@ pub extern "C" fn trainer_flush(
     let a = machine::flush(d, memory, cache, byte(unit as u64), byte(block as u64));
     if a.refusal == 0 {
         let left = a.directory;
-        encode_slots(left, directory);
+        encode_left(left, directory);
         put_answer(a, answer);
         return 0;
     }

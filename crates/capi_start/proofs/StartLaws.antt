@@ -18,7 +18,7 @@ use Rattle.capi_start.specs.Start.{chosen, choosable, startReturned, sta
 
 cold-back : (s t : ℕ) → decoded (encoded (coldDirectory (chosen s t))) ≡ coldDirectory (chosen s t)
 unfolding coldDirectory chosen settingsOf
-cold-back s t = inverse .back (coldDirectory (chosen s t)) refl refl
+cold-back s t = inverse .back (coldDirectory (chosen s t)) refl refl refl
 
 choose : (s t : ℕ) → s ≤ 15 → t ≤ 1 → choosable s t ≡ true
 unfolding choosable
@@ -35,11 +35,11 @@ on-or-off s = (refl, refl)
 
 started : (s t : ℕ) (d : List ℕ) → directorySize ≤ length d → s ≤ 15 → t ≤ 1
     → decoded (take directorySize (startDirectory s t d)) ≡ coldDirectory (chosen s t)
-unfolding startDirectory directoryPut
+unfolding startDirectory directoryPut coldDirectory
 started s t d h g f =
     let x : Directory = coldDirectory (chosen s t) in
     rw (choose s t g f, le-leb directorySize (length d) h)
-    (ap decoded (take-at (encoded x) (drop directorySize d) directorySize (length-encoded x)) ∙ cold-back s t)
+    (ap decoded (take-at (encoded x) (drop directorySize d) directorySize (length-encoded x (refl))) ∙ cold-back s t)
 
 stays : (m k : List ℕ) (s t : ℕ) (d : List ℕ) → (length d < directorySize) ⊎ ((15 < s) ⊎ (1 < t))
     → (startCache m k s t d ≡ k) × (startDirectory s t d ≡ d)

@@ -18,7 +18,7 @@ pub extern "C" fn trainer_cold_start(
 ) -> u32
     ensures { λ r. ⌜ (r ≡ startReturned (now (memory .entry)) (now (cache .entry)) «write_through» steal (now (directory .entry))) × (now (cache .exit) ≡ startCache (now (memory .entry)) (now (cache .entry)) «write_through» steal (now (directory .entry))) × (now (directory .exit) ≡ startDirectory «write_through» steal (now (directory .entry))) ⌝ }
 {
-    if directory.len() < 130 {
+    if directory.len() < 194 {
         return NO_ROOM as u32;
     }
     if write_through > 15 {

@@ -18,7 +18,7 @@ use Rattle.coherence.specs.Access.{Run, ready, give, mark, writeBack, co
 use Rattle.coherence.specs.declared.Directory.{Directory}
 use Rattle.coherence.specs.declared.Call.{Call}
 use Rattle.coherence.specs.declared.Call.the-variants.{Load, Store, Flush}
-use Rattle.coherence.specs.Calls.{act, refusal, after, valueOf, noOrder, packed, answer, memoryAfter, cacheAfter}
+use Rattle.coherence.specs.Calls.{act, refusal, settle, after, valueOf, noOrder, packed, answer, memoryAfter, cacheAfter}
 use Rattle.coherence.specs.Demand3.{ordersIn, AnswersOrders, Refused}
 
 -- the orders given so far
@@ -135,10 +135,10 @@ unfolding ready
 ready-given d m k = refl
 
 pub after-given : (d : Directory) (m k : List ℕ) (c : Call) → given (after d m k c) ≤ 4
-unfolding after
+unfolding after settle
 after-given d m k c = go (eqb (refusal d m k c) 0)
   where
-    go : (t : Bool) → given (cond t (act c (ready d m k)) (ready d m k)) ≤ 4
+    go : (t : Bool) → given (cond t (settle (act c (ready d m k))) (ready d m k)) ≤ 4
     go true = omega (arith, act-given c (ready d m k), ready-given d m k)
     go false = omega (arith, ready-given d m k)
 

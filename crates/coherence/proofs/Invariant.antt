@@ -13,8 +13,9 @@ use Rattle.coherence.specs.declared.Settings.{Settings}
 use Rattle.coherence.specs.declared.Directory.{Directory}
 use Rattle.coherence.specs.Bytes.{blockAt}
 use Rattle.coherence.specs.Settings.{through}
-use Rattle.coherence.specs.Slots.{slotAt, setSlot, holds, modified}
+use Rattle.coherence.specs.Slots.{slotAt, setSlot, holds, modified, kept}
 use Rattle.coherence.proofs.Cases.{eq-or-ne, true-or-false}
+use Rattle.coherence.proofs.HolderLaws.{Sets, sets-kept}
 use Rattle.coherence.proofs.SlotLaws.{size, size-set, slot-same, slot-other, set-settings, modified-is, is-modified, modified-holds}
 
 -- the plain memory as it stands, each block of it as it stood when it was last taken, and the settings that were chosen
@@ -38,6 +39,35 @@ pub record Inv (p : Beside) (d : Directory) (m c : List ℕ) : Type 0 where
   pub copy : (n b : ℕ) → holds (slotAt d n) b ≡ true → blockAt c n ≡ blockAt (p .plain) b
   pub home : (b : ℕ) → b < 64 → ((n : ℕ) → slotAt d n ≡ Modified b → ⊥) → blockAt m b ≡ blockAt (p .plain) b
   pub under : (n b : ℕ) → slotAt d n ≡ Modified b → blockAt m b ≡ p .taken b
+
+-- between two calls
+pub record Rests (p : Beside) (d : Directory) (m c : List ℕ) : Type 0 where
+  pub inv : Inv p d m c
+  pub sets : Sets d
+
+-- the end of a call
+pub rests : (p : Beside) (d : Directory) (m c : List ℕ) → Inv p d m c → Rests p (kept d) m c
+unfolding kept slotAt size
+rests p d m c i =
+    record {
+      inv =
+          record {
+            lawful =
+                record {
+                  chosen = i .lawful .chosen;
+                  slots = i .lawful .slots;
+                  placed = i .lawful .placed;
+                  lone = i .lawful .lone;
+                  kinds = i .lawful .kinds;
+                };
+            memory = i .memory;
+            store = i .store;
+            copy = i .copy;
+            home = i .home;
+            under = i .under;
+          };
+      sets = sets-kept d;
+    }
 
 -- slot n becomes x; its part of the cache store may change, and in memory the block that it had EM
 pub record Change (p : Beside) (d : Directory) (m m′ c c′ : List ℕ) (n : ℕ) (x : Slot) : Type 0 where

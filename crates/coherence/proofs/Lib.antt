@@ -2,6 +2,7 @@ pub mod Cases
 pub mod Below
 pub mod ByteLaws
 pub mod SlotLaws
+pub mod HolderLaws
 pub mod Weights
 pub mod Rules
 pub mod RefusalLaws

@@ -1,6 +1,6 @@
 -- The directory's test passes exactly where the documents' rules hold.
 use mathlib.Core.Path.{_≡_, refl, ap, sym, _∙_}
-use mathlib.Core.Bool.{Bool, true, false, not, _||_, false≢true}
+use mathlib.Core.Bool.{Bool, true, false, not, _&&_, _||_, false≢true}
 use Prim.Native.Nat.{ℕ, _+_, _*_, _/_, _%_, _≤_, _<_}
 use native.Mathlib.Omega.{arith}
 use lib.Dec.{eqb, leb}
@@ -9,7 +9,7 @@ use Rattle.coherence.specs.declared.Slot.{Slot}
 use Rattle.coherence.specs.declared.Slot.the-variants.{Invalid, Shared, Modified}
 use Rattle.coherence.specs.declared.Directory.{Directory}
 use Rattle.coherence.specs.Settings.{through}
-use Rattle.coherence.specs.Slots.{place, slotAt, slotOf, blockOf, holds, fits, alone, slotRule, kindRule, soundSlots, soundKinds, sound, Exclusive, Rules, Kinds, TestsRules}
+use Rattle.coherence.specs.Slots.{place, slotAt, slotOf, blockOf, holds, holdersOf, heldBy, fits, alone, slotRule, kindRule, soundSlots, soundKinds, soundSets, sound, Exclusive, Rules, Kinds, SetsTrue, Tests, TestsRules}
 use Rattle.coherence.proofs.Below.{both, below-at, all-below}
 use Rattle.coherence.proofs.SlotLaws.{modified-holds, shared-holds, place-of}
 
@@ -139,14 +139,30 @@ kinds-sound : (d : Directory) → Kinds d → soundKinds d ≡ true
 unfolding Kinds
 kinds-sound d h = kinds-test d (λ n b l e. h (n / 16) (n % 16) b (omega arith) (omega arith) (number-of d n ∙ e))
 
--- ---- the whole test
-pub sound-of : (d : Directory) → soundSlots d ≡ true → soundKinds d ≡ true → sound d ≡ true
-unfolding sound
-sound-of d e f = rw (e, f)
+-- ---- the sets of holders
+sets-say : (d : Directory) (b : ℕ) → soundSets d ≡ true → b < 64 → heldBy d b ≡ holdersOf d b
+unfolding soundSets
+sets-say d b e h = eqb-true (heldBy d b) (holdersOf d b) (below-at (λ k. eqb (heldBy d k) (holdersOf d k)) 64 b e h)
 
-sound-parts : (d : Directory) → sound d ≡ true → (soundSlots d ≡ true) × (soundKinds d ≡ true)
+pub sets-test : (d : Directory) → ((b : ℕ) → b < 64 → heldBy d b ≡ holdersOf d b) → soundSets d ≡ true
+unfolding soundSets
+sets-test d h = all-below 64 _ (λ b l. eq-eqb (heldBy d b) (holdersOf d b) (h b l))
+
+sets-tests : (d : Directory) → Tests (soundSets d) (SetsTrue d)
+unfolding SetsTrue
+sets-tests d = record { enough = λ e b l. sets-say d b e (omega arith); needed = λ h. sets-test d (λ b l. h b (omega arith)) }
+
+-- ---- the whole test
+pub sound-of : (d : Directory) → soundSlots d ≡ true → soundKinds d ≡ true → soundSets d ≡ true → sound d ≡ true
 unfolding sound
-sound-parts d e = both (soundSlots d) (soundKinds d) e
+sound-of d e f g = rw (e, f, g)
+
+sound-parts : (d : Directory) → sound d ≡ true → (soundSlots d ≡ true) × (soundKinds d ≡ true) × (soundSets d ≡ true)
+unfolding sound
+sound-parts d e =
+    let q : ((soundSlots d && soundKinds d) ≡ true) × (soundSets d ≡ true) = both (soundSlots d && soundKinds d) (soundSets d) e in
+    let r : (soundSlots d ≡ true) × (soundKinds d ≡ true) = both (soundSlots d) (soundKinds d) (q .0) in
+    (r .0, r .1, q .1)
 
 -- a block that is held in a sound directory
 pub sound-placed : (d : Directory) (n b : ℕ) → sound d ≡ true → n < 64 → holds (slotAt d n) b ≡ true → (b ≤ 63) × (b % 16 ≡ n % 16)
@@ -157,14 +173,18 @@ pub sound-exclusive : (d : Directory) (n p b : ℕ) → sound d ≡ true → n <
     → n / 16 ≡ p / 16
 sound-exclusive d n p b e = slots-exclusive d n p b (sound-parts d e .0)
 
+pub sound-sets : (d : Directory) (b : ℕ) → sound d ≡ true → b < 64 → heldBy d b ≡ holdersOf d b
+sound-sets d b e = sets-say d b (sound-parts d e .2)
+
 pub tests-rules : (d : Directory) → TestsRules d
 tests-rules d =
     record {
       slots = record { enough = slots-rules d; needed = rules-slots d };
       kinds = record { enough = kinds-say d; needed = kinds-sound d };
+      sets = sets-tests d;
       whole =
           record {
-            enough = λ e. (slots-rules d (sound-parts d e .0), kinds-say d (sound-parts d e .1));
-            needed = λ r. sound-of d (rules-slots d (r .0)) (kinds-sound d (r .1));
+            enough = λ e. (slots-rules d (sound-parts d e .0), kinds-say d (sound-parts d e .1), sets-tests d .enough (sound-parts d e .2));
+            needed = λ r. sound-of d (rules-slots d (r .0)) (kinds-sound d (r .1)) (sets-tests d .needed (r .2));
           };
     }

@@ -19,16 +19,17 @@ use Rattle.coherence.specs.declared.Call.{Call}
 use Rattle.coherence.specs.declared.Call.the-variants.{Load, Store, Flush}
 use Rattle.coherence.specs.Bytes.{blockAt, putBlock, wordAt, putWord}
 use Rattle.coherence.specs.Settings.{through}
-use Rattle.coherence.specs.Slots.{place, slotAt, setSlot, slotOf, holds, modified, ownerOf, sound, Kinds, coldDirectory}
+use Rattle.coherence.specs.Slots.{place, slotAt, setSlot, slotOf, holds, modified, kept, ownerOf, sound, Kinds, SetsTrue, coldDirectory}
 use Rattle.coherence.specs.Access.{Run, ready, give, mark, writeBack, copyback, emptied, empty, yield, reads, stolen, asked, ask, fill, fetch, eachUnit, expel, claim, cachePlace, write, load, own, writeThrough, storeThrough, store, flush}
 use Rattle.coherence.specs.Refusal.{sized, isUnit, isBlock, startRefusal, peekRefusal}
-use Rattle.coherence.specs.Calls.{unitOf, isTarget, refusal, act, loaded, after, valueOf, answer, memoryAfter, cacheAfter, startAnswer, cacheStarted}
+use Rattle.coherence.specs.Calls.{unitOf, isTarget, refusal, act, loaded, settle, after, valueOf, answer, memoryAfter, cacheAfter, startAnswer, cacheStarted}
 use Rattle.coherence.specs.Peek.{fromCache, newestBlock, newest, peeked, peekFromCache, peekOffset}
 use Rattle.coherence.specs.Sentences.{Accepted, left, by, NoneHasEM, NotEM, MissOrders, SlotsLoaded, SlotsStored, SlotsThrough, SlotsFlushed, Leaves, wordPlace, LoadMissed, StoreShared, StoreMissed, ThroughOrders, StoreThrough, FlushHeld, SentencesHold, PeeksHold, StartsHold}
 use Rattle.coherence.proofs.Cases.{eq-or-ne, four}
 use Rattle.coherence.proofs.ByteLaws.{length-block, length-putBlock, block-same}
 use Rattle.coherence.proofs.SlotLaws.{size, size-set, slot-same, slot-other, holds-invalid, modified-holds, shared-holds, holds-is, is-modified, invalid≢modified, shared≢modified, place-lt, place-ne, place-unit, owner-cases, slot-cold}
-use Rattle.coherence.proofs.Rules.{sound-placed, sound-exclusive, tests-rules}
+use Rattle.coherence.proofs.HolderLaws.{Sets, kept-same, sets-kept, held-cold}
+use Rattle.coherence.proofs.Rules.{sound-placed, sound-exclusive, sound-sets, tests-rules}
 use Rattle.coherence.proofs.RefusalLaws.{call-tests, start-tests, peek-tests, all-pass, sized-say, sized-true}
 use Rattle.coherence.proofs.Counts.{orders-in}
 use Rattle.coherence.proofs.Shapes.{answer-settings}
@@ -42,9 +43,37 @@ accepted-says d m k c e =
     let z : (length m ≡ 2048) × (length k ≡ 2048) = sized-say m k (q .0) in
     (q .1, omega arith, z .0, z .1)
 
-acts : (d : Directory) (m k : List ℕ) (c : Call) → refusal d m k c ≡ 0 → after d m k c ≡ act c (ready d m k)
+acts : (d : Directory) (m k : List ℕ) (c : Call) → refusal d m k c ≡ 0 → after d m k c ≡ settle (act c (ready d m k))
 unfolding after
 acts d m k c e = rw (eq-eqb (refusal d m k c) 0 e) refl
+
+-- what the contracts fix is the machine after the call
+pub left-is : (d : Directory) (m k : List ℕ) (c : Call) → left d m k c ≡ after d m k c
+unfolding left answer memoryAfter cacheAfter
+left-is d m k c =
+    ap (λ (os : List Order). record { directory = after d m k c .directory; memory = after d m k c .memory; cache = after d m k c .cache; orders = os })
+    (orders-in d m k c)
+
+-- the sets of an accepted call's directory are true
+accepted-sets : (d : Directory) (m k : List ℕ) (c : Call) → length (d .holders) ≡ 64 → refusal d m k c ≡ 0 → Sets d
+accepted-sets d m k c h e = record { number = h; agree = λ b l. sound-sets d b (accepted-says d m k c e .0) l }
+
+-- what the slots are does not hang on the sets
+settled-loaded : (d e : Directory) (u b : ℕ) → SlotsLoaded d u b e → SlotsLoaded d u b (kept e)
+unfolding kept slotAt
+settled-loaded d e u b s = record { own = s .own; holder = s .holder; rest = s .rest }
+
+settled-stored : (d e : Directory) (u b : ℕ) → SlotsStored d u b e → SlotsStored d u b (kept e)
+unfolding kept slotAt
+settled-stored d e u b s = record { own = s .own; others = s .others; rest = s .rest }
+
+settled-through : (d e : Directory) (u b : ℕ) → SlotsThrough d u b e → SlotsThrough d u b (kept e)
+unfolding kept slotAt
+settled-through d e u b s = record { own = s .own; others = s .others; rest = s .rest }
+
+settled-flushed : (d e : Directory) (u b : ℕ) → SlotsFlushed d u b e → SlotsFlushed d u b (kept e)
+unfolding kept slotAt
+settled-flushed d e u b s = record { own = s .own; rest = s .rest }
 
 word-place : (u a : ℕ) → cachePlace u a ≡ wordPlace u a
 unfolding cachePlace place
@@ -511,11 +540,13 @@ claim-slots d u b w l z held kept =
     }
 
 -- ---- the accesses
-module _ (d : Directory) (m k : List ℕ) (z : size d ≡ 64) where
+module _ (d : Directory) (m k : List ℕ) (z : size d ≡ 64) (z₂ : length (d .holders) ≡ 64) where
   load-held : (u a : ℕ) → refusal d m k (Load u a) ≡ 0 → holds (slotAt d (place u (a / 32))) (a / 32) ≡ true
       → Leaves d m [] k (after d m k (Load u a))
-  unfolding act load ready
-  load-held u a r e = rw (acts d m k (Load u a) r, e) (record { orders = refl; directory = refl; memory = refl; cache = refl })
+  unfolding act load ready settle
+  load-held u a r e =
+      rw (acts d m k (Load u a) r, e)
+      (record { orders = refl; directory = kept-same d (accepted-sets d m k (Load u a) z₂ r); memory = refl; cache = refl })
 
   misses : (u a : ℕ) → holds (slotAt d (place u (a / 32))) (a / 32) ≡ false → act (Load u a) (ready d m k) ≡ fetch u Read (a / 32) (ready d m k)
   unfolding act load ready
@@ -523,23 +554,28 @@ module _ (d : Directory) (m k : List ℕ) (z : size d ≡ 64) where
 
   load-missed : (u a : ℕ) → refusal d m k (Load u a) ≡ 0 → holds (slotAt d (place u (a / 32))) (a / 32) ≡ false
       → LoadMissed d m k u (a / 32) (after d m k (Load u a))
-  unfolding unitOf reads
+  unfolding unitOf reads settle
   load-missed u a r e =
       let q : (sound d ≡ true) × (u < 4) × (length m ≡ 2048) × (length k ≡ 2048) = accepted-says d m k (Load u a) r in
       rw (acts d m k (Load u a) r, misses u a e)
       (record {
         orders = fetch-orders d m k u (a / 32) Read refl (q .1) z (q .0) e;
-        slots = fetch-slots d m k u (a / 32) Read refl (q .1) z (q .0) e;
+        slots = settled-loaded d _ u (a / 32) (fetch-slots d m k u (a / 32) Read refl (q .1) z (q .0) e);
         cache = fetch-cache d m k u (a / 32) Read refl (q .1) z (q .0) e;
         taken = fetch-taken d m k u (a / 32) Read refl (q .1) z (q .0) e (q .2) (q .3);
       })
 
   store-modified : (u a v : ℕ) → refusal d m k (Store u a v) ≡ 0 → through (d .settings) u ≡ false → slotAt d (place u (a / 32)) ≡ Modified (a / 32)
       → Leaves d m [] (putWord k (wordPlace u a) v) (after d m k (Store u a v))
-  unfolding act store own write ready
+  unfolding act store own write ready settle
   store-modified u a v r c e =
       rw (acts d m k (Store u a v) r, c, is-modified (slotAt d (place u (a / 32))) (a / 32) e)
-      (record { orders = refl; directory = refl; memory = refl; cache = ap (λ (p : ℕ). putWord k p v) (word-place u a) })
+      (record {
+        orders = refl;
+        directory = kept-same d (accepted-sets d m k (Store u a v) z₂ r);
+        memory = refl;
+        cache = ap (λ (p : ℕ). putWord k p v) (word-place u a);
+      })
 
   not-modified : (u b : ℕ) → slotAt d (place u b) ≡ Shared b → modified (slotAt d (place u b)) b ≡ false
   unfolding modified
@@ -561,7 +597,7 @@ module _ (d : Directory) (m k : List ℕ) (z : size d ≡ 64) where
 
   store-shared : (u a v : ℕ) → refusal d m k (Store u a v) ≡ 0 → through (d .settings) u ≡ false → slotAt d (place u (a / 32)) ≡ Shared (a / 32)
       → StoreShared d m k u a v (after d m k (Store u a v))
-  unfolding unitOf write give ready
+  unfolding unitOf write give ready settle
   store-shared u a v r y e =
       let b : ℕ = a / 32 in
       let w : Run = give u Invalidate b false (ready d m k) in
@@ -570,7 +606,7 @@ module _ (d : Directory) (m k : List ℕ) (z : size d ≡ 64) where
       rw (acts d m k (Store u a v) r, shares u a v y e)
       (record {
         orders = c .0;
-        slots = claim-slots d u b w (q .1) z (λ x h y t. t) (λ n h t. refl);
+        slots = settled-stored d _ u b (claim-slots d u b w (q .1) z (λ x h y t. t) (λ n h t. refl));
         memory = c .1;
         cache = ap (λ (x : List ℕ). putWord x (cachePlace u a) v) (c .2) ∙ ap (λ (p : ℕ). putWord k p v) (word-place u a);
       })
@@ -582,7 +618,7 @@ module _ (d : Directory) (m k : List ℕ) (z : size d ≡ 64) where
 
   store-missed : (u a v : ℕ) → refusal d m k (Store u a v) ≡ 0 → through (d .settings) u ≡ false → holds (slotAt d (place u (a / 32))) (a / 32) ≡ false
       → StoreMissed d m k u a v (after d m k (Store u a v))
-  unfolding unitOf write reads
+  unfolding unitOf write reads settle
   store-missed u a v r i e =
       let b : ℕ = a / 32 in
       let w : Run = fetch u ModifiedRead b (ready d m k) in
@@ -596,13 +632,14 @@ module _ (d : Directory) (m k : List ℕ) (z : size d ≡ 64) where
       (record {
         orders = rw (c .0, c .1) o;
         slots =
-            claim-slots d u b w (q .1) y
+            settled-stored d _ u b
+            (claim-slots d u b w (q .1) y
             (λ x l n t.
             ⊎-elim
             (λ p. shared-holds _ b (s .rest (place x b) (λ i. place-ne u x b n (sym i)) (λ i. shared≢modified b b (sym p ∙ i)) ∙ p))
             (λ p. shared-holds _ b (s .holder x l p))
             (holds-is _ b t))
-            (λ n i t. s .rest n i (λ p. false≢true (sym t ∙ modified-holds _ b p)));
+            (λ n i t. s .rest n i (λ p. false≢true (sym t ∙ modified-holds _ b p))));
         cache =
             ap (λ (x : List ℕ). putWord x (cachePlace u a) v) (c .2 ∙ h ∙ ap (λ (x : List ℕ). putBlock k (place u b) (blockAt x b)) (sym (c .1)))
             ∙ ap (λ (p : ℕ). putWord (putBlock k (place u b) (blockAt (claim u b w .memory) b)) p v) (word-place u a);
@@ -678,7 +715,7 @@ module _ (d : Directory) (m k : List ℕ) (z : size d ≡ 64) where
       }
 
   store-through : (u a v : ℕ) → refusal d m k (Store u a v) ≡ 0 → through (d .settings) u ≡ true → StoreThrough d m k u a v (after d m k (Store u a v))
-  unfolding unitOf storeThrough writeThrough write ready
+  unfolding unitOf storeThrough writeThrough write ready settle
   store-through u a v r t =
       let b : ℕ = a / 32 in
       let q : (sound d ≡ true) × (u < 4) × (length m ≡ 2048) × (length k ≡ 2048) = accepted-says d m k (Store u a v) r in
@@ -687,7 +724,7 @@ module _ (d : Directory) (m k : List ℕ) (z : size d ≡ 64) where
       rw (acts d m k (Store u a v) r, writes u a v t)
       (record {
         orders = rw (g .orders, g .memory) (gives u a v (q .1) (q .0) t);
-        slots = through-slots u b (q .1) (q .0) t;
+        slots = settled-through d _ u b (through-slots u b (q .1) (q .0) t);
         held = λ h.
             rw (own-slot u b (q .1) (q .0) t, h)
             (ap (λ (y : List ℕ). putWord y (cachePlace u a) v) (g .cache ∙ ask-cache u MemoryWrite b (ready d m k)) ∙ ap (λ (p : ℕ). putWord k p v) (word-place u a));
@@ -708,35 +745,37 @@ module _ (d : Directory) (m k : List ℕ) (z : size d ≡ 64) where
 
   flush-modified : (u b : ℕ) → refusal d m k (Flush u b) ≡ 0 → slotAt d (place u b) ≡ Modified b
       → FlushHeld d k u b (by u Copyback b false ∷ []) (putBlock m b (blockAt k (place u b))) (after d m k (Flush u b))
-  unfolding unitOf ready
+  unfolding unitOf ready settle
   flush-modified u b r e =
       let q : (sound d ≡ true) × (u < 4) × (length m ≡ 2048) × (length k ≡ 2048) = accepted-says d m k (Flush u b) r in
       rw (acts d m k (Flush u b) r, flushes u b (modified-holds _ b e))
       (record {
         orders = empty-em u (place u b) (ready d m k) b e .0;
-        slots = flush-slots u b (q .1);
+        slots = settled-flushed d _ u b (flush-slots u b (q .1));
         memory = empty-em u (place u b) (ready d m k) b e .1;
         cache = empty-cache u (place u b) (ready d m k);
       })
 
   flush-shared : (u b : ℕ) → refusal d m k (Flush u b) ≡ 0 → slotAt d (place u b) ≡ Shared b
       → FlushHeld d k u b [] m (after d m k (Flush u b))
-  unfolding unitOf ready
+  unfolding unitOf ready settle
   flush-shared u b r e =
       let q : (sound d ≡ true) × (u < 4) × (length m ≡ 2048) × (length k ≡ 2048) = accepted-says d m k (Flush u b) r in
       let n : NotEM d (place u b) = λ c y. shared≢modified b c (sym e ∙ y) in
       rw (acts d m k (Flush u b) r, flushes u b (shared-holds _ b e))
       (record {
         orders = empty-not u (place u b) (ready d m k) n .0;
-        slots = flush-slots u b (q .1);
+        slots = settled-flushed d _ u b (flush-slots u b (q .1));
         memory = empty-not u (place u b) (ready d m k) n .1;
         cache = empty-cache u (place u b) (ready d m k);
       })
 
   flush-other : (u b : ℕ) → refusal d m k (Flush u b) ≡ 0 → holds (slotAt d (place u b)) b ≡ false
       → Leaves d m [] k (after d m k (Flush u b))
-  unfolding act flush ready
-  flush-other u b r e = rw (acts d m k (Flush u b) r, e) (record { orders = refl; directory = refl; memory = refl; cache = refl })
+  unfolding act flush ready settle
+  flush-other u b r e =
+      rw (acts d m k (Flush u b) r, e)
+      (record { orders = refl; directory = kept-same d (accepted-sets d m k (Flush u b) z₂ r); memory = refl; cache = refl })
 
   load-value : (u a : ℕ) → Accepted d m k (Load u a) → answer d m k (Load u a) .value ≡ wordAt (cacheAfter d m k (Load u a)) (wordPlace u a)
   unfolding answer valueOf loaded cacheAfter
@@ -755,30 +794,28 @@ module _ (d : Directory) (m k : List ℕ) (z : size d ≡ 64) where
   unfolding answer valueOf loaded
   flush-value u b = either (eqb (refusal d m k (Flush u b)) 0)
 
-  -- what the contracts fix is the machine after the call
-  left-is : (c : Call) → left d m k c ≡ after d m k c
-  unfolding left answer memoryAfter cacheAfter
-  left-is c =
-      ap (λ (os : List Order). record { directory = after d m k c .directory; memory = after d m k c .memory; cache = after d m k c .cache; orders = os })
-      (orders-in d m k c)
+  sets-left : (c : Call) → Accepted d m k c → SetsTrue (answer d m k c .directory)
+  unfolding answer settle SetsTrue
+  sets-left c r b l = rw (acts d m k c r) (sets-kept (act c (ready d m k) .directory) .agree b (omega arith))
 
 pub sentences : SentencesHold
 unfolding SentencesHold size answer
-sentences d m k z =
+sentences d m k z z₂ =
     record {
-      loadHeld = λ u a r e. rw (left-is d m k z (Load u a)) (load-held d m k z u a r e);
-      storeModified = λ u a v r t e. rw (left-is d m k z (Store u a v)) (store-modified d m k z u a v r t e);
-      storeShared = λ u a v r t e. rw (left-is d m k z (Store u a v)) (store-shared d m k z u a v r t e);
-      loadMissed = λ u a r e. rw (left-is d m k z (Load u a)) (load-missed d m k z u a r e);
-      storeMissed = λ u a v r t e. rw (left-is d m k z (Store u a v)) (store-missed d m k z u a v r t e);
-      storeThrough = λ u a v r t. rw (left-is d m k z (Store u a v)) (store-through d m k z u a v r t);
-      flushModified = λ u b r e. rw (left-is d m k z (Flush u b)) (flush-modified d m k z u b r e);
-      flushShared = λ u b r e. rw (left-is d m k z (Flush u b)) (flush-shared d m k z u b r e);
-      flushOther = λ u b r e. rw (left-is d m k z (Flush u b)) (flush-other d m k z u b r e);
+      loadHeld = λ u a r e. rw (left-is d m k (Load u a)) (load-held d m k z z₂ u a r e);
+      storeModified = λ u a v r t e. rw (left-is d m k (Store u a v)) (store-modified d m k z z₂ u a v r t e);
+      storeShared = λ u a v r t e. rw (left-is d m k (Store u a v)) (store-shared d m k z z₂ u a v r t e);
+      loadMissed = λ u a r e. rw (left-is d m k (Load u a)) (load-missed d m k z z₂ u a r e);
+      storeMissed = λ u a v r t e. rw (left-is d m k (Store u a v)) (store-missed d m k z z₂ u a v r t e);
+      storeThrough = λ u a v r t. rw (left-is d m k (Store u a v)) (store-through d m k z z₂ u a v r t);
+      flushModified = λ u b r e. rw (left-is d m k (Flush u b)) (flush-modified d m k z z₂ u b r e);
+      flushShared = λ u b r e. rw (left-is d m k (Flush u b)) (flush-shared d m k z z₂ u b r e);
+      flushOther = λ u b r e. rw (left-is d m k (Flush u b)) (flush-other d m k z z₂ u b r e);
       kept = answer-settings d m k;
-      loaded = load-value d m k z;
-      stored = store-value d m k z;
-      flushed = flush-value d m k z;
+      holders = sets-left d m k z z₂;
+      loaded = load-value d m k z z₂;
+      stored = store-value d m k z z₂;
+      flushed = flush-value d m k z z₂;
     }
 
 -- ---- peek
@@ -835,6 +872,7 @@ starts-hold g m k =
     record {
       slots = λ n. slot-cold g n;
       settings = refl;
+      sets = λ b. held-cold g b;
       accepted = λ e f. rw (start-accepts m k e f) (refl, refl);
       refused = λ h. rw (start-refuses m k h) (refl, refl);
     }

@@ -1,4 +1,4 @@
--- A call leaves a directory of as many slots as it found, and with the same settings.
+-- A call leaves a directory of as many slots as it found, with the same settings, and with 64 sets of holders if it found as many.
 use Prim.Native.Nat.{ℕ, _/_}
 use mathlib.Core.Path.{_≡_, refl, ap, _∙_}
 use mathlib.Core.Bool.{Bool, true, false, cond, not, _&&_}
@@ -13,10 +13,11 @@ use Rattle.coherence.specs.declared.Directory.{Directory}
 use Rattle.coherence.specs.Settings.{through}
 use Rattle.coherence.specs.declared.Call.{Call}
 use Rattle.coherence.specs.declared.Call.the-variants.{Load, Store, Flush}
-use Rattle.coherence.specs.Slots.{place, slotAt, setSlot, holds, modified, ownerOf}
+use Rattle.coherence.specs.Slots.{place, slotAt, setSlot, holds, modified, kept, ownerOf}
 use Rattle.coherence.specs.Access.{Run, ready, give, mark, writeBack, copyback, emptied, empty, yield, stolen, asked, ask, fill, fetch, eachUnit, expel, claim, write, load, own, writeThrough, storeThrough, store, flush}
-use Rattle.coherence.specs.Calls.{act, refusal, after, answer}
+use Rattle.coherence.specs.Calls.{act, refusal, settle, after, answer}
 use lib.Dec.{ltb, eqb}
+use Rattle.coherence.proofs.HolderLaws.{length-kept}
 
 abbrev Shape : Type 0
 Shape = ℕ × Settings
@@ -111,8 +112,9 @@ act-shape (Store u a v) w =
 act-shape (Flush u b) w = either (holds (slotAt (w .directory) (place u b)) b) (empty u (place u b) w) w (shape w) (empty-shape u (place u b) w) refl
 
 after-shape : (d : Directory) (m k : List ℕ) (c : Call) → shape (after d m k c) ≡ shape (ready d m k)
-unfolding after
-after-shape d m k c = either (eqb (refusal d m k c) 0) (act c (ready d m k)) (ready d m k) (shape (ready d m k)) (act-shape c (ready d m k)) refl
+unfolding after settle kept
+after-shape d m k c =
+    either (eqb (refusal d m k c) 0) (settle (act c (ready d m k))) (ready d m k) (shape (ready d m k)) (act-shape c (ready d m k)) refl
 
 pub answer-slots : (d : Directory) (m k : List ℕ) (c : Call) → length (answer d m k c .directory .slots) ≡ length (d .slots)
 unfolding answer ready
@@ -121,3 +123,11 @@ answer-slots d m k c = ap (λ (x : Shape). x .0) (after-shape d m k c)
 pub answer-settings : (d : Directory) (m k : List ℕ) (c : Call) → answer d m k c .directory .settings ≡ d .settings
 unfolding answer ready
 answer-settings d m k c = ap (λ (x : Shape). x .1) (after-shape d m k c)
+
+pub answer-sets : (d : Directory) (m k : List ℕ) (c : Call) → length (d .holders) ≡ 64 → length (answer d m k c .directory .holders) ≡ 64
+unfolding answer after settle ready
+answer-sets d m k c e = go (eqb (refusal d m k c) 0)
+  where
+    go : (t : Bool) → length (cond t (settle (act c (ready d m k))) (ready d m k) .directory .holders) ≡ 64
+    go true = length-kept (act c (ready d m k) .directory)
+    go false = e

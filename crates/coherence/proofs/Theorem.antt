@@ -16,16 +16,17 @@ use Rattle.coherence.specs.declared.Call.the-variants.{Load, Store, Flus
 use Rattle.coherence.specs.declared.Answer.{Answer}
 use Rattle.coherence.specs.declared.Start.{Start}
 use Rattle.coherence.specs.Bytes.{blockAt}
-use Rattle.coherence.specs.Slots.{place, slotAt, holds, ownerOf, coldDirectory}
+use Rattle.coherence.specs.Slots.{place, slotAt, holds, ownerOf, sound, coldDirectory}
 use Rattle.coherence.specs.Refusal.{isBlock, peekRefusal}
 use Rattle.coherence.specs.Peek.{fromCache, newestBlock, newest, peeked}
 use Rattle.coherence.specs.PlainMemory.{plainAccepts}
 use Rattle.coherence.specs.Demand3.{Started, Session, isLoad, isStore, acceptedOf, loads, stores, perStore, Each, Demand3Holds, PeekPlain, PeekShowsPlain}
 use Rattle.coherence.specs.Snapshot.{Snapshots}
 use Rattle.coherence.proofs.SlotLaws.{holds-invalid, modified-holds, owner-cases, size-cold, slot-cold}
+use Rattle.coherence.proofs.HolderLaws.{sets-cold}
 use Rattle.coherence.proofs.RefusalLaws.{peek-tests, sized-true, start-passed}
 use Rattle.coherence.proofs.Weights.{weightOf, enough, debt, debt-cold}
-use Rattle.coherence.proofs.Invariant.{Beside, Lawful, Inv}
+use Rattle.coherence.proofs.Invariant.{Beside, Lawful, Inv, Rests}
 use Rattle.coherence.proofs.Actions.{none-em}
 use Rattle.coherence.proofs.Sessions.{start-accepted, start-directory, start-cache}
 use Rattle.coherence.proofs.Steps.{lawful-sound, lawful-exclusive, charge, besideAfterAll, Over, run}
@@ -49,7 +50,7 @@ cold-lawful g =
       kinds = λ n b e. absurd (cold-empty g n b (modified-holds _ b e));
     }
 
-pub cold-keeps : (g : Settings) (m : List ℕ) → length m ≡ 2048 → Inv (atFirst g m) (coldDirectory g) m (replicate 2048 0)
+cold-keeps : (g : Settings) (m : List ℕ) → length m ≡ 2048 → Inv (atFirst g m) (coldDirectory g) m (replicate 2048 0)
 unfolding atFirst
 cold-keeps g m h =
     record {
@@ -61,16 +62,16 @@ cold-keeps g m h =
       under = λ n b e. absurd (cold-empty g n b (modified-holds _ b e));
     }
 
-start-keeps : (g : Settings) (m : List ℕ) (s : Start) (k k′ : List ℕ) → Started g m k s k′ → s .refusal ≡ 0 → Inv (atFirst g m) (s .directory) m k′
+start-keeps : (g : Settings) (m : List ℕ) (s : Start) (k k′ : List ℕ) → Started g m k s k′ → s .refusal ≡ 0 → Rests (atFirst g m) (s .directory) m k′
 start-keeps g m s k k′ h a =
-    rw (start-directory g m s k k′ h a, start-cache g m s k k′ h a) (cold-keeps g m (start-passed m k (start-accepted g m s k k′ h a) .0))
+    rw (start-directory g m s k k′ h a, start-cache g m s k k′ h a) (record { inv = cold-keeps g m (start-passed m k (start-accepted g m s k k′ h a) .0); sets = sets-cold g })
 
 -- ---- the whole session
 module _
     (g : Settings) (m : List ℕ) (s : Start) (cs : List Call) (rs : List Answer) (d′ : Directory) (m′ k′ : List ℕ)
     (h : Session g m s cs rs d′ m′ k′)
   where
-    first : Inv (atFirst g m) (s .directory) m (h .cleared)
+    first : Rests (atFirst g m) (s .directory) m (h .cleared)
     first = start-keeps g m s (h .lent) (h .cleared) (h .started) (h .accepts)
 
     whole : Over (weightOf g) (atFirst g m) (s .directory) cs rs d′ m′ k′
@@ -115,7 +116,7 @@ pub demand3 : Demand3Holds
 unfolding Demand3Holds loads stores atFirst
 demand3 g m s cs rs d′ m′ k′ h =
     let o : Over (weightOf g) (atFirst g m) (s .directory) cs rs d′ m′ k′ = whole g m s cs rs d′ m′ k′ h in
-    let i : Lawful g (s .directory) = first g m s cs rs d′ m′ k′ h .lawful in
+    let i : Lawful g (s .directory) = first g m s cs rs d′ m′ k′ h .inv .lawful in
     let b : acceptedOf (charge (weightOf g)) cs ≡ acceptedOf isLoad cs + perStore g * acceptedOf isStore cs = rw (per-store g) (charges (weightOf g) cs) in
     record {
       plain = o .says;
@@ -135,27 +136,35 @@ newest-plain p d m k b l i =
     (λ h. rw (le-ltb (ownerOf d b) 4 (h .0)) (i .home b l (none-em p d m k b i (h .1))))
     (owner-cases d b)
 
-block-true : (b : ℕ) → b ≤ 63 → isBlock b ≡ true
+pub block-true : (b : ℕ) → b ≤ 63 → isBlock b ≡ true
 unfolding isBlock
 block-true b l = le-leb b 63 l
 
-pub peek-plain : (p : Beside) (d : Directory) (m k : List ℕ) (b : ℕ) → b ≤ 63 → Inv p d m k → PeekPlain (p .plain) d m k b
+pub peek-plain : (p : Beside) (d : Directory) (m k : List ℕ) (b : ℕ) → b ≤ 63 → Rests p d m k → PeekPlain (p .plain) d m k b
 unfolding peeked
 peek-plain p d m k b l i =
     let a : peekRefusal d m k b ≡ 0 =
-    peek-tests d m k b ∙ rw (sized-true m k (i .memory) (i .store), lawful-sound (p .settings) d (i .lawful), block-true b l) refl in
-    record { accepts = a; shows = rw (eq-eqb (peekRefusal d m k b) 0 a) (newest-plain p d m k b (omega arith) i) }
+    peek-tests d m k b ∙ rw (sized-true m k (i .inv .memory) (i .inv .store), lawful-sound (p .settings) d (i .inv .lawful) (i .sets), block-true b l) refl in
+    record { accepts = a; shows = rw (eq-eqb (peekRefusal d m k b) 0 a) (newest-plain p d m k b (omega arith) (i .inv)) }
 
 pub peek-shows-plain : PeekShowsPlain
 unfolding PeekShowsPlain besideAfterAll atFirst
 peek-shows-plain g m s cs rs d′ m′ k′ h b l =
     peek-plain (besideAfterAll (s .directory) (atFirst g m) cs rs) d′ m′ k′ b l (whole g m s cs rs d′ m′ k′ h .keeps)
 
+-- ---- the directory that is left
+pub session-sound : (g : Settings) (m : List ℕ) (s : Start) (cs : List Call) (rs : List Answer) (d′ : Directory) (m′ k′ : List ℕ)
+    → Session g m s cs rs d′ m′ k′ → sound d′ ≡ true
+unfolding besideAfterAll atFirst
+session-sound g m s cs rs d′ m′ k′ h =
+    let i : Rests (besideAfterAll (s .directory) (atFirst g m) cs rs) d′ m′ k′ = whole g m s cs rs d′ m′ k′ h .keeps in
+    lawful-sound g d′ (i .inv .lawful) (i .sets)
+
 -- ---- memory under an EM block
 pub snapshots : Snapshots
 unfolding Snapshots besideAfterAll atFirst
 snapshots g m s cs rs d′ m′ k′ h b l =
-    let i : Inv (besideAfterAll (s .directory) (atFirst g m) cs rs) d′ m′ k′ = whole g m s cs rs d′ m′ k′ h .keeps in
+    let i : Inv (besideAfterAll (s .directory) (atFirst g m) cs rs) d′ m′ k′ = whole g m s cs rs d′ m′ k′ h .keeps .inv in
     record {
       free = λ f. i .home b (omega arith) (none-em _ d′ m′ k′ b i f);
       under = λ u v e. i .under (place u b) b e;

@@ -11,7 +11,7 @@ use Rattle.coherence.specs.declared.Slot.the-variants.{Invalid, Shared, 
 use Rattle.coherence.specs.declared.Entry.{Entry}
 use Rattle.coherence.specs.declared.Settings.{Settings}
 use Rattle.coherence.specs.declared.Directory.{Directory}
-use Rattle.coherence.specs.Slots.{emptyEntry, slotAt, setSlot, coldDirectory}
+use Rattle.coherence.specs.Slots.{emptyEntry, slotAt, setSlot, kept, coldDirectory}
 use Rattle.coherence.proofs.SlotLaws.{size}
 
 abbrev pub Enough : ℕ → Settings → Type 0
@@ -54,6 +54,10 @@ pub debt-set : (e : ℕ) (d : Directory) (n : ℕ) (x : Slot) → n < size d
     → debt e (setSlot d n x) + weight e (slotAt d n) ≡ debt e d + weight e x
 unfolding debt setSlot slotAt size
 debt-set e d n x h = weights-set e (d .slots) n (record { slot = x }) h
+
+pub debt-kept : (e : ℕ) (d : Directory) → debt e (kept d) ≡ debt e d
+unfolding debt kept
+debt-kept e d = refl
 
 weights-empty : (e n : ℕ) → weights e (replicate n emptyEntry) ≡ 0
 unfolding weights

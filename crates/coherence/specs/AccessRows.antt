@@ -1,8 +1,8 @@
--- Each case of document 01's "What an access does" and of document 02's T-05 and T-13 once, on one slot of the four units, with all that the call answers and leaves:
--- orders, value, slots and bytes written out. Peek and cold start likewise. Each is a computation on the definitions that the contracts cite.
-use Prim.Native.Nat.{ℕ, _*_}
+-- Each case of document 01's "What an access does" and of document 02's T-05, T-08 and T-13 once, on one slot of the four units, with all that the call answers and leaves:
+-- orders, value, slots, sets of holders and bytes written out. Peek and cold start likewise. Each is a computation on the definitions that the contracts cite.
+use Prim.Native.Nat.{ℕ, _+_, _*_}
 use mathlib.Core.Path.{_≡_}
-use mathlib.Core.Bool.{true, false}
+use mathlib.Core.Bool.{true, false, cond}
 use mathlib.Core.List.{List, [], _∷_, _++_}
 use lib.ListN.{drop, replicate}
 use Rattle.order.specs.declared.Command.the-variants.{Read, ModifiedRead, Invalidate, Copyback, MemoryWrite}
@@ -14,12 +14,17 @@ use Rattle.coherence.specs.declared.Slot.the-variants.{Invalid, Shared, 
 use Rattle.coherence.specs.declared.Settings.{Settings}
 use Rattle.coherence.specs.declared.Directory.{Directory}
 use Rattle.coherence.specs.Settings.{copybackBoard, throughBoard, drillSettings}
-use Rattle.coherence.specs.Slots.{emptyEntry}
-use Rattle.coherence.specs.Calls.{answer, startAnswer, cacheStarted}
+use Rattle.coherence.specs.Slots.{emptyEntry, holds}
+use Rattle.coherence.specs.Access.{ready}
+use Rattle.coherence.specs.Calls.{refusal, act, loaded, settle, answer, startAnswer, cacheStarted}
 use Rattle.coherence.specs.Peek.{peeked, peekFromCache, peekOffset}
 use Rattle.coherence.specs.Sentences.{by, left}
 
--- slot 2 of units 0 to 3, all other slots invalid
+-- block n is held by these of the units 0 to 3, whose slots 2 are a, b, c and e: "unit 0 having weight 1, unit 3 weight 8"
+unfoldable pub heldTwo : Slot → Slot → Slot → Slot → ℕ → ℕ
+heldTwo a b c e n = cond (holds a n) 1 0 + cond (holds b n) 2 0 + cond (holds c n) 4 0 + cond (holds e n) 8 0
+
+-- slot 2 of units 0 to 3, all other slots invalid; and who holds the blocks that have their place there, 2, 18, 34 and 50
 unfoldable pub slotTwoOf : Settings → Slot → Slot → Slot → Slot → Directory
 slotTwoOf g a b c e =
     record {
@@ -29,6 +34,11 @@ slotTwoOf g a b c e =
           ++ (record { slot = c } ∷ replicate 15 emptyEntry)
           ++ (record { slot = e } ∷ replicate 13 emptyEntry);
       settings = g;
+      holders =
+          replicate 2 0 ++ (heldTwo a b c e 2 ∷ replicate 15 0)
+          ++ (heldTwo a b c e 18 ∷ replicate 15 0)
+          ++ (heldTwo a b c e 34 ∷ replicate 15 0)
+          ++ (heldTwo a b c e 50 ∷ replicate 13 0);
     }
 
 -- on copyback boards
@@ -83,17 +93,24 @@ withBlocks x y = replicate 64 7 ++ replicate 32 x ++ replicate 992 7 ++ replicat
 unfoldable pub withWord : ℕ → List ℕ
 withWord x = replicate 8 x ++ (0 ∷ 0 ∷ 1 ∷ 44 ∷ replicate 20 x)
 
--- the call c on the directory d: its value and its orders, and the directory, the memory store and unit 1's part of the caches that it leaves
+-- the call c on the directory d: it is accepted, what it does with the directory, memory and unit 1's part of the caches, its orders, and its value
 pub record Row (d : Directory) (c : Call) (n : ℕ) (os : List Order) (e : Directory) (m k : List ℕ) : Type 0 where
+  pub accepts : refusal d sevens (caches elevens) c ≡ 0
+  pub leaves : settle (act c (ready d sevens (caches elevens))) ≡ record { directory = e; memory = m; cache = caches k; orders = os }
+  pub value : loaded c (record { directory = e; memory = m; cache = caches k; orders = os }) ≡ n
+
+-- and so what the contracts fix of it
+pub record RowSays (d : Directory) (c : Call) (n : ℕ) (os : List Order) (e : Directory) (m k : List ℕ) : Type 0 where
   pub accepts : answer d sevens (caches elevens) c .refusal ≡ 0
   pub value : answer d sevens (caches elevens) c .value ≡ n
   pub leaves : left d sevens (caches elevens) c ≡ record { directory = e; memory = m; cache = caches k; orders = os }
 
--- the call c refused with number n: "no orders, .. every other number 0 .., and leaves directory, .. stores .. unchanged"
-pub record RefusedRow (d : Directory) (c : Call) (n : ℕ) : Type 0 where
-  pub refused : answer d sevens (caches elevens) c .refusal ≡ n
-  pub value : answer d sevens (caches elevens) c .value ≡ 0
-  pub leaves : left d sevens (caches elevens) c ≡ record { directory = d; memory = sevens; cache = caches elevens; orders = [] }
+unfoldable pub RowsSay : Type 0
+RowsSay = (d : Directory) (c : Call) (n : ℕ) (os : List Order) (e : Directory) (m k : List ℕ) → Row d c n os e m k → RowSays d c n os e m k
+
+-- the number of the call's refusal; `Demand3.Refused` says what it leaves
+unfoldable pub refusedWith : Directory → Call → ℕ
+refusedWith d c = refusal d sevens (caches elevens) c
 
 -- unit 1 calls; address 72 is byte 8 of block 2, and blocks 18 and 34 have the same slot
 pub record Rows : Type 0 where
@@ -149,9 +166,9 @@ pub record Rows : Type 0 where
       []
       (slotTwo (Modified 2) (Shared 18) Invalid Invalid) sevens elevens
   -- block 2 is EM in unit 1 and valid in unit 3; unit 4 is none; 74 is not a multiple of 4
-  pub broken : RefusedRow (slotTwo Invalid (Modified 2) Invalid (Shared 2)) (Flush 1 2) 2
-  pub noUnit : RefusedRow (slotTwo Invalid (Shared 2) Invalid Invalid) (Load 4 74) 3
-  pub badAddress : RefusedRow (slotTwo Invalid (Modified 2) Invalid Invalid) (Store 1 74 300) 4
+  pub broken : refusedWith (slotTwo Invalid (Modified 2) Invalid (Shared 2)) (Flush 1 2) ≡ 2
+  pub noUnit : refusedWith (slotTwo Invalid (Shared 2) Invalid Invalid) (Load 4 74) ≡ 3
+  pub badAddress : refusedWith (slotTwo Invalid (Modified 2) Invalid Invalid) (Store 1 74 300) ≡ 4
 
 -- T-05: unit 1 has a write-through board
 pub record ThroughRows : Type 0 where
@@ -175,7 +192,7 @@ pub record ThroughRows : Type 0 where
       (by 1 Read 2 true ∷ by 0 Copyback 2 false ∷ by 1 Read 2 false ∷ [])
       (mixedTwo (Shared 2) (Shared 2) (Modified 18) Invalid) (withBlock 2 10 61) (withSlot (replicate 32 10))
   -- "Refusals: 2 also for a write-through unit with an EM slot": unit 3's, before 3 and 4
-  pub broken : RefusedRow (mixedTwo Invalid Invalid Invalid (Modified 2)) (Load 4 74) 2
+  pub broken : refusedWith (mixedTwo Invalid Invalid Invalid (Modified 2)) (Load 4 74) ≡ 2
 
 -- T-13: steal is on. On copyback boards but where a unit's board is said to be write-through
 pub record StealRows : Type 0 where
@@ -229,6 +246,7 @@ pub record Starts : Type 0 where
   pub shortCache : cacheStarted sevens (drop 1 (caches elevens)) ≡ drop 1 (caches elevens)
 
 pub record AccessRows : Type 0 where
+  pub say : RowsSay
   pub rows : Rows
   pub throughRows : ThroughRows
   pub stealRows : StealRows

@@ -16,7 +16,7 @@ use Rattle.coherence.specs.declared.Orders.{Orders}
 use Rattle.coherence.specs.declared.Answer.{Answer}
 use Rattle.coherence.specs.declared.Start.{Start}
 use Rattle.coherence.specs.Bytes.{storeSize, wordAt}
-use Rattle.coherence.specs.Slots.{coldDirectory}
+use Rattle.coherence.specs.Slots.{kept, coldDirectory}
 use Rattle.coherence.specs.Access.{Run, ready, load, store, flush, cachePlace}
 use Rattle.coherence.specs.Refusal.{isAddress, isBlock, callRefusal, startRefusal}
 
@@ -48,9 +48,13 @@ loaded (Load u a) w = wordAt (w .cache) (cachePlace u a)
 loaded (Store u a v) w = 0
 loaded (Flush u b) w = 0
 
+-- T-08: "each call keeps it true": the sets of holders at the end of a call
+unfoldable pub settle : Run → Run
+settle w = record { directory = kept (w .directory); memory = w .memory; cache = w .cache; orders = w .orders }
+
 -- the machine that a call leaves; a refused one gives no order and changes nothing
 unfoldable pub after : Directory → List ℕ → List ℕ → Call → Run
-after d m k c = cond (eqb (refusal d m k c) accepted) (act c (ready d m k)) (ready d m k)
+after d m k c = cond (eqb (refusal d m k c) accepted) (settle (act c (ready d m k))) (ready d m k)
 
 -- "A refused call gives its number, no orders, .. every other number 0"
 unfoldable pub valueOf : Directory → List ℕ → List ℕ → Call → ℕ

@@ -13,7 +13,8 @@ use Rattle.coherence.specs.declared.Answer.{Answer}
 use Rattle.coherence.specs.declared.Slot.the-variants.{Invalid, Shared, Modified}
 use Rattle.coherence.specs.Bytes.{storeSize, blockAt}
 use Rattle.coherence.specs.Settings.{drillSettings}
-use Rattle.coherence.specs.Slots.{setSlot, stateNumber, sound, coldDirectory}
+use Rattle.coherence.specs.Slots.{setSlot, stateNumber, holdersOf, kept, sound, coldDirectory}
+use Rattle.coherence.specs.Access.{Run}
 use Rattle.coherence.specs.Refusal.{startRefusal, peekRefusal}
 use Rattle.coherence.specs.Calls.{answersCold, afterCold}
 use Rattle.coherence.specs.Peek.{peeked}
@@ -61,9 +62,12 @@ pub record FourOrders : Type 0 where
       ∷ []
   pub value : map (λ (r : Answer). r .value) (drop 2 (answersCold drillSettings zeros conflict)) ≡ 9 ∷ []
 
--- what peek shows after a list of calls, and block b when it was last taken
+-- what peek shows of a machine, and after a list of calls; and block b when it was last taken
+unfoldable pub peekOf : Run → ℕ → List ℕ
+peekOf w b = peeked (w .directory) (w .memory) (w .cache) b
+
 unfoldable pub peekAfter : List Call → ℕ → List ℕ
-peekAfter cs b = peeked (afterCold drillSettings zeros cs .directory) (afterCold drillSettings zeros cs .memory) (afterCold drillSettings zeros cs .cache) b
+peekAfter cs b = peekOf (afterCold drillSettings zeros cs) b
 
 unfoldable pub takenCold : List Call → ℕ → List ℕ
 takenCold cs b = takenAfterAll (coldDirectory drillSettings) zeros (blockAt zeros) cs (answersCold drillSettings zeros cs) b
@@ -91,12 +95,12 @@ pub record Invalidations : Type 0 where
 
 -- the rules of the directory: slots 3 and 51 are slot 3 of units 0 and 3
 pub record Directories : Type 0 where
-  pub bothShared : sound (setSlot (setSlot (coldDirectory drillSettings) 3 (Shared 3)) 51 (Shared 3)) ≡ true
-  pub modifiedAndShared : sound (setSlot (setSlot (coldDirectory drillSettings) 3 (Modified 3)) 51 (Shared 3)) ≡ false
-  pub otherBlock : sound (setSlot (setSlot (coldDirectory drillSettings) 3 (Modified 3)) 51 (Modified 19)) ≡ true
-  pub wrongSlot : sound (setSlot (coldDirectory drillSettings) 0 (Shared 8)) ≡ false
-  pub lastBlock : sound (setSlot (coldDirectory drillSettings) 63 (Modified 63)) ≡ true
-  pub noBlock : sound (setSlot (coldDirectory drillSettings) 0 (Shared 64)) ≡ false
+  pub bothShared : sound (kept (setSlot (setSlot (coldDirectory drillSettings) 3 (Shared 3)) 51 (Shared 3))) ≡ true
+  pub modifiedAndShared : sound (kept (setSlot (setSlot (coldDirectory drillSettings) 3 (Modified 3)) 51 (Shared 3))) ≡ false
+  pub otherBlock : sound (kept (setSlot (setSlot (coldDirectory drillSettings) 3 (Modified 3)) 51 (Modified 19))) ≡ true
+  pub wrongSlot : sound (kept (setSlot (coldDirectory drillSettings) 0 (Shared 8))) ≡ false
+  pub lastBlock : sound (kept (setSlot (coldDirectory drillSettings) 63 (Modified 63))) ≡ true
+  pub noBlock : sound (kept (setSlot (coldDirectory drillSettings) 0 (Shared 64))) ≡ false
   pub numbers : map stateNumber (Invalid ∷ Shared 9 ∷ Modified 5 ∷ []) ≡ 0 ∷ 1 ∷ 2 ∷ []
 
 -- T-05: units 1 and 3 have write-through boards, the others have copyback boards.
@@ -107,9 +111,9 @@ mixedCalls = Store 0 72 9 ∷ Store 1 72 10 ∷ Load 1 72 ∷ Store 1 72 11 ∷ 
 pub record MixedBoards : Type 0 where
   pub lines : map valueAndOrders (answersCold mixedSettings zeros mixedCalls) ≡ (0, 1) ∷ (0, 3) ∷ (10, 1) ∷ (0, 1) ∷ (11, 0) ∷ (11, 1) ∷ []
   -- slots 3 and 19 are slot 3 of units 0 and 1
-  pub modified : sound (setSlot (coldDirectory mixedSettings) 19 (Modified 3)) ≡ false
-  pub shared : sound (setSlot (coldDirectory mixedSettings) 19 (Shared 3)) ≡ true
-  pub other : sound (setSlot (coldDirectory mixedSettings) 3 (Modified 3)) ≡ true
+  pub modified : sound (kept (setSlot (coldDirectory mixedSettings) 19 (Modified 3))) ≡ false
+  pub shared : sound (kept (setSlot (coldDirectory mixedSettings) 19 (Shared 3))) ≡ true
+  pub other : sound (kept (setSlot (coldDirectory mixedSettings) 3 (Modified 3))) ≡ true
 
 -- T-13: the same boards, with steal on. A read and a modified read are stolen, a memory write is given again
 unfoldable pub stealCalls : List Call

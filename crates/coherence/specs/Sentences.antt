@@ -1,4 +1,4 @@
--- Document 01, "What an access does", and document 02, T-05 and T-13, sentence by sentence: what an accepted call answers and leaves, for every directory and both stores. These say
+-- Document 01, "What an access does", and document 02, T-05, T-08 and T-13, sentence by sentence: what an accepted call answers and leaves, for every directory and both stores. These say
 -- it by slots, literal orders and bytes, apart from the actions of `Access`. Peek and cold start likewise, refused ones too; `Demand3.Refused` is the
 -- same for refused calls.
 use Prim.Native.Nat.{ℕ, _+_, _*_, _/_, _%_, _<_}
@@ -16,7 +16,7 @@ use Rattle.coherence.specs.Settings.{through}
 use Rattle.coherence.specs.declared.Call.{Call}
 use Rattle.coherence.specs.declared.Call.the-variants.{Load, Store, Flush}
 use Rattle.coherence.specs.Bytes.{blockAt, putBlock, wordAt, putWord}
-use Rattle.coherence.specs.Slots.{place, slotAt, holds}
+use Rattle.coherence.specs.Slots.{place, slotAt, holds, heldBy, SetsTrue}
 use Rattle.coherence.specs.Access.{Run}
 use Rattle.coherence.specs.Refusal.{peekRefusal}
 use Rattle.coherence.specs.Calls.{answer, memoryAfter, cacheAfter, startAnswer, cacheStarted}
@@ -190,15 +190,17 @@ pub record Sentences (d : Directory) (m k : List ℕ) : Type 0 where
       → Leaves d m [] k (left d m k (Flush u b))
   -- T-05: "a kind for each unit, chosen at cold start", T-13: "and kept like the boards' kinds": no call changes the settings
   pub kept : (c : Call) → answer d m k c .directory .settings ≡ d .settings
+  -- T-08: "each call keeps it true"
+  pub holders : (c : Call) → Accepted d m k c → SetsTrue (answer d m k c .directory)
   -- the number that a load answers: the word in u's cache then; a store and a flush answer 0, by our choice
   pub loaded : (u a : ℕ) → Accepted d m k (Load u a)
       → answer d m k (Load u a) .value ≡ wordAt (cacheAfter d m k (Load u a)) (wordPlace u a)
   pub stored : (u a v : ℕ) → answer d m k (Store u a v) .value ≡ 0
   pub flushed : (u b : ℕ) → answer d m k (Flush u b) .value ≡ 0
 
--- of every directory that has its 64 slots, as the type has
+-- of every directory that has its 64 slots and its 64 sets, as the type has
 unfoldable pub SentencesHold : Type 0
-SentencesHold = (d : Directory) (m k : List ℕ) → length (d .slots) ≡ 64 → Sentences d m k
+SentencesHold = (d : Directory) (m k : List ℕ) → length (d .slots) ≡ 64 → length (d .holders) ≡ 64 → Sentences d m k
 
 -- ---- peek, and cold start
 
@@ -220,6 +222,8 @@ pub record StartSays (g : Settings) (m k : List ℕ) : Type 0 where
   pub slots : (n : ℕ) → slotAt (startAnswer g m k .directory) n ≡ Invalid
   -- T-05: "chosen at cold start (a refused one's directory holds the chosen kinds too)"
   pub settings : startAnswer g m k .directory .settings ≡ g
+  -- T-08: "cold start has all sets empty"
+  pub sets : (b : ℕ) → heldBy (startAnswer g m k .directory) b ≡ 0
   -- "cache store all zeros"
   pub accepted : length m ≡ 2048 → length k ≡ 2048 → (startAnswer g m k .refusal ≡ 0) × (cacheStarted m k ≡ replicate 2048 0)
   -- "Cold start tests 1 alone": "memory store or cache store isn't 2,048 bytes". "A refused call .. leaves .. stores .. unchanged."

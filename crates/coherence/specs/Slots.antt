@@ -1,8 +1,10 @@
--- Document 01, "The directory", with document 02, T-05: what a slot has, the rules, and the directory of a cold start. A slot has a number: slot s of
--- unit u is number 16 u + s in the directory, and the part of the cache store at 512 u + 32 s is its block 16 u + s.
+-- Document 01, "The directory", with document 02, T-05 and T-08: what a slot has, the units that hold a block, the rules, and the directory of a cold
+-- start. A slot has a number: slot s of unit u is number 16 u + s in the directory, and the part of the cache store at 512 u + 32 s is its block 16 u
+-- + s.
 use Prim.Native.Nat.{ℕ, zero, suc, _+_, _*_, _/_, _%_, _≤_, _<_}
 use mathlib.Core.Path.{_≡_}
 use mathlib.Core.Bool.{Bool, true, false, cond, not, _&&_, _||_}
+use mathlib.Core.List.{List, [], _∷_, _++_}
 use lib.ListN.{getD, set, replicate}
 use lib.Dec.{leb, eqb}
 use Rattle.coherence.specs.declared.Slot.{Slot}
@@ -30,10 +32,6 @@ place u b = 16 * u + b % 16
 unfoldable pub slotAt : Directory → ℕ → Slot
 slotAt d n = (getD (d .slots) n emptyEntry) .slot
 
--- slot n becomes x
-unfoldable pub setSlot : Directory → ℕ → Slot → Directory
-setSlot d n x = record { slots = set (d .slots) n (record { slot = x }); settings = d .settings }
-
 -- the block number of a slot; "An invalid slot has block 0"
 unfoldable pub blockOf : Slot → ℕ
 blockOf Invalid = 0
@@ -57,6 +55,34 @@ unfoldable pub modified : Slot → ℕ → Bool
 modified Invalid b = false
 modified (Shared c) b = false
 modified (Modified c) b = eqb c b
+
+-- the set of the units with f: "unit 0 having weight 1, unit 3 weight 8"
+unfoldable pub bit : Bool → ℕ
+bit t = cond t 1 0
+
+unfoldable pub unitsWith : (ℕ → Bool) → ℕ
+unitsWith f = bit (f 0) + 2 * bit (f 1) + 4 * bit (f 2) + 8 * bit (f 3)
+
+-- the set of units holding block b, by the slots
+unfoldable pub holdersOf : Directory → ℕ → ℕ
+holdersOf d b = unitsWith (λ u. holds (slotAt d (place u b)) b)
+
+-- the set that the directory keeps for block b
+unfoldable pub heldBy : Directory → ℕ → ℕ
+heldBy d b = getD (d .holders) b 0
+
+-- slot n becomes x; the sets stay as they were
+unfoldable pub setSlot : Directory → ℕ → Slot → Directory
+setSlot d n x = record { slots = set (d .slots) n (record { slot = x }); settings = d .settings; holders = d .holders }
+
+-- f 0, f 1, .., f (n - 1)
+unfoldable pub table : ℕ → (ℕ → ℕ) → List ℕ
+table zero f = []
+table (suc n) f = table n f ++ (f n ∷ [])
+
+-- T-08: "Keep for each of the 64 blocks the set of units holding it": the slots and settings of d, and the sets that its slots have
+unfoldable pub kept : Directory → Directory
+kept d = record { slots = d .slots; settings = d .settings; holders = table 64 (holdersOf d) }
 
 -- the first unit that has block b EM, or 4 if none has
 unfoldable pub ownerOf : Directory → ℕ → ℕ
@@ -97,13 +123,17 @@ soundSlots d = allBelow 64 (λ n. slotRule d n (slotAt d n))
 unfoldable pub soundKinds : Directory → Bool
 soundKinds d = allBelow 64 (λ n. kindRule d n (slotAt d n))
 
+-- T-08: "2 also for a set that differs from the slots"
+unfoldable pub soundSets : Directory → Bool
+soundSets d = allBelow 64 (λ b. eqb (heldBy d b) (holdersOf d b))
+
 -- the test for refusal 2: no rule is violated
 unfoldable pub sound : Directory → Bool
-sound d = soundSlots d && soundKinds d
+sound d = soundSlots d && soundKinds d && soundSets d
 
--- "Cold start: all slots invalid", with the settings that were chosen
+-- "Cold start: all slots invalid", with the settings that were chosen; "cold start has all sets empty"
 unfoldable pub coldDirectory : Settings → Directory
-coldDirectory g = record { slots = replicate 64 emptyEntry; settings = g }
+coldDirectory g = record { slots = replicate 64 emptyEntry; settings = g; holders = replicate 64 0 }
 
 -- ---- the same rules in the documents' words
 
@@ -127,6 +157,10 @@ pub record Rules (d : Directory) : Type 0 where
 unfoldable pub Kinds : Directory → Type 0
 Kinds d = (u s b : ℕ) → u < 4 → s < 16 → slotOf d u s ≡ Modified b → through (d .settings) u ≡ false
 
+-- "for each of the 64 blocks the set of units holding it"
+unfoldable pub SetsTrue : Directory → Type 0
+SetsTrue d = (b : ℕ) → b ≤ 63 → heldBy d b ≡ holdersOf d b
+
 -- a test passes if and only if P holds
 pub record Tests (test : Bool) (P : Type 0) : Type 0 where
   pub enough : test ≡ true → P
@@ -135,4 +169,5 @@ pub record Tests (test : Bool) (P : Type 0) : Type 0 where
 pub record TestsRules (d : Directory) : Type 0 where
   pub slots : Tests (soundSlots d) (Rules d)
   pub kinds : Tests (soundKinds d) (Kinds d)
-  pub whole : Tests (sound d) (Rules d × Kinds d)
+  pub sets : Tests (soundSets d) (SetsTrue d)
+  pub whole : Tests (sound d) (Rules d × Kinds d × SetsTrue d)

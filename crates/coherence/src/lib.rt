@@ -33,10 +33,12 @@ pub struct Settings {
     pub steal: bool,
 }
 
-// The slots of all four units, slot s of unit u being number 16 u + s, and the settings.
+// The slots of all four units, slot s of unit u being number 16 u + s; the settings; and for each block the set of units that hold it, unit 0 having
+// weight 1, unit 3 weight 8.
 pub struct Directory {
     pub slots: [Entry; 64],
     pub settings: Settings,
+    pub holders: [u8; 64],
 }
 
 // One call of the machine.

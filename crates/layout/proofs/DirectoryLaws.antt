@@ -1,15 +1,15 @@
 -- The directory's bytes: one turn of the loops that write and read them, and the slot of a pair.
 use mathlib.Core.Path.{_≡_, refl, sym, ap, _∙_}
 use mathlib.Core.Bool.{Bool, true, false}
-use mathlib.Core.List.{List, [], _∷_, _++_}
+use mathlib.Core.List.{List, [], _∷_, _++_, append-assoc}
 use mathlib.Core.Logic.{⊎-elim}
 use Prim.Native.Nat.{ℕ, zero, suc, _+_, _*_, _/_, _%_, _≤_, _<_}
 use native.Mathlib.Omega.{arith}
 use native.Mathlib.Nat.{eq-or-lt-of-le}
 use native.Mathlib.Numerals.{add-one}
 use lib.Dec.{leb, eqb}
-use lib.ListN.{length, getD, take, drop, set, length-append}
-use lib.Seq.{take-suc-set, getD-set-same, getD-set-other}
+use lib.ListN.{length, getD, take, drop, set, length-append, length-drop}
+use lib.Seq.{paste, paste-suc, sets, sets-eq, take-suc, take-suc-set, take-all, getD-drop, take-append-add, drop-append-add, drop-drop, length-take-le, take-at, drop-at, getD-set-same, getD-set-other}
 use borrow.Author.Tests.{eqb-true, eqb-false, leb-true, le-leb, lt-leb, ne-eqb}
 use Rattle.order.specs.Flag.{flag}
 use Rattle.coherence.specs.declared.Slot.the-variants.{Invalid, Shared, Modified}
@@ -20,7 +20,7 @@ use Rattle.slots.specs.Directory.{ofSlots}
 use Rattle.slots.proofs.OfSlots.{of-slot}
 use Rattle.crossing.proofs.Spaces.{put-behind}
 use Rattle.boards.specs.Boards.{setOf}
-use Rattle.layout.specs.Directory.{directorySize, slotBytes, settingsBytes, encoded, slotsPut, directoryPut, Paired, blockSpelled, slotSpelled, slotsSpelled}
+use Rattle.layout.specs.Directory.{directorySize, slotBytes, settingsBytes, frontBytes, encoded, slotsPut, setsPut, leftPut, directoryPut, Paired, blockSpelled, slotSpelled, slotsSpelled}
 
 pub length-slotBytes : (n : ℕ) (d : Directory) → length (slotBytes n d) ≡ 2 * n
 unfolding slotBytes
@@ -47,16 +47,62 @@ put-slot d o n h =
     ∙ ap (λ (k : ℕ). slotBytes (suc n) d ++ drop k o) next
     ∙ ap (λ (k : ℕ). slotBytes k d ++ drop (2 * (n + 1)) o) (sym (add-one n)))
 
--- the settings behind them
-pub put-settings : (d : Directory) (o : List ℕ) → directorySize ≤ length o
-    → set (set (slotsPut d o) 128 (setOf (d .settings))) 129 (flag (d .settings .steal)) ≡ directoryPut d o
-unfolding slotsPut directoryPut encoded settingsBytes
-put-settings d o h =
-    rw (le-leb directorySize (length o) h) (put-behind (slotBytes 64 d) o (settingsBytes (d .settings)) 128 (length-slotBytes 64 d) h)
+-- one set more, written and read
+pub put-set : (o h : List ℕ) (b : ℕ) → 130 + b < length o → b < length h → set (paste o 130 h b) (130 + b) (getD h b 0) ≡ paste o 130 h (b + 1)
+put-set o h b i j = rw (add-one b) (paste-suc o 130 h b 0 i j)
 
-pub put-none : (d : Directory) (o : List ℕ) → length o < directorySize → slotsPut d o ≡ directoryPut d o
-unfolding slotsPut directoryPut
-put-none d o h = rw (lt-leb directorySize (length o) h) refl
+pub put-sets : (o h : List ℕ) → length h ≡ 64 → paste o 130 h 64 ≡ take 130 o ++ h ++ drop directorySize o
+put-sets o h e = ap (λ (x : List ℕ). take 130 o ++ x ++ drop directorySize o) (take-all 64 h (omega arith))
+
+pub take-set : (l a : List ℕ) (b : ℕ) → b < length a → 130 + b < length l → take b a ≡ take b (drop 130 l)
+    → take (b + 1) (set a b (getD l (130 + b) 0)) ≡ take (b + 1) (drop 130 l)
+take-set l a b i j e =
+    let x : ℕ = getD l (130 + b) 0 in
+    rw (add-one b)
+    (take-suc-set a b x i
+    ∙ ap (λ (t : List ℕ). t ++ (x ∷ [])) e
+    ∙ ap (λ (n : ℕ). take b (drop 130 l) ++ (n ∷ [])) (sym (getD-drop 130 l b 0))
+    ∙ sym (take-suc (drop 130 l) b 0 (simp length-drop (omega arith))))
+
+-- the sets in their places, and what stands between
+pub left-is : (d : Directory) (o : List ℕ) → directorySize ≤ length o
+    → leftPut d o ≡ slotBytes 64 d ++ take 2 (drop 128 o) ++ d .holders ++ drop directorySize o
+unfolding leftPut setsPut slotsPut
+left-is d o h =
+    let s : List ℕ = slotBytes 64 d in
+    let l : length s ≡ 128 = length-slotBytes 64 d in
+    let z : length (s ++ drop 128 o) ≡ length o = simp (length-append, length-drop) (omega arith) in
+    let i : 130 ≡ length s + 2 = omega arith in
+    let j : directorySize ≡ length s + 66 = omega arith in
+    let p : take 130 (s ++ drop 128 o) ≡ s ++ take 2 (drop 128 o) = ap (λ (n : ℕ). take n (s ++ drop 128 o)) i ∙ take-append-add s (drop 128 o) 2 in
+    let q : drop directorySize (s ++ drop 128 o) ≡ drop directorySize o =
+    ap (λ (n : ℕ). drop n (s ++ drop 128 o)) j ∙ drop-append-add s (drop 128 o) 66 ∙ drop-drop 66 128 o in
+    rw (le-leb directorySize (length o) h, z, le-leb directorySize (length o) h, p, q) refl
+
+-- and the settings there
+pub put-settings : (d : Directory) (o : List ℕ) → directorySize ≤ length o
+    → set (set (leftPut d o) 128 (setOf (d .settings))) 129 (flag (d .settings .steal)) ≡ directoryPut d o
+unfolding directoryPut encoded frontBytes settingsBytes
+put-settings d o h =
+    let s : List ℕ = slotBytes 64 d in
+    let t : List ℕ = take 2 (drop 128 o) in
+    let r : List ℕ = drop directorySize o in
+    let vs : List ℕ = settingsBytes (d .settings) in
+    let l : length s ≡ 128 = length-slotBytes 64 d in
+    let lt : length t ≡ 2 = length-take-le 2 (drop 128 o) (simp length-drop (omega arith)) in
+    let f : length (s ++ t) ≡ 130 = length-append s t ∙ (omega arith) in
+    let y : s ++ t ++ d .holders ++ r ≡ (s ++ t) ++ (d .holders ++ r) = append-assoc (s ++ t) (d .holders) r in
+    let fits : 128 + length vs ≤ length ((s ++ t) ++ (d .holders ++ r)) = simp length-append (omega arith) in
+    rw (le-leb directorySize (length o) h)
+    (ap (λ (x : List ℕ). sets x 128 vs) (left-is d o h ∙ y)
+    ∙ sets-eq vs ((s ++ t) ++ (d .holders ++ r)) 128 fits
+    ∙ ap (λ (x : List ℕ). x ++ vs ++ drop 130 ((s ++ t) ++ (d .holders ++ r))) (ap (take 128) (append-assoc s t (d .holders ++ r)) ∙ take-at s (t ++ (d .holders ++ r)) 128 l)
+    ∙ ap (λ (x : List ℕ). s ++ vs ++ x) (drop-at (s ++ t) (d .holders ++ r) 130 f)
+    ∙ sym (append-assoc (s ++ vs) (d .holders) r))
+
+pub put-none : (d : Directory) (o : List ℕ) → length o < directorySize → leftPut d o ≡ directoryPut d o
+unfolding leftPut setsPut slotsPut directoryPut
+put-none d o h = let n : leb directorySize (length o) ≡ false = lt-leb directorySize (length o) h in rw (n, n) refl
 
 pub take-slot : (l : List ℕ) (a : List Entry) (n : ℕ) → n < length a → take n a ≡ slotsSpelled n l
     → take (n + 1) (set a n (record { slot = slotSpelled (getD l (2 * n) 0) (getD l (2 * n + 1) 0) })) ≡ slotsSpelled (n + 1) l

@@ -1,10 +1,10 @@
 -- The directory as a caller lends it: two bytes for each slot, slot n at 2 n, its state and its block; then the set of the units that have a write-through
--- board; then 1 with steal on, else 0.
+-- board; then 1 with steal on, else 0; then for each block the set of the units that hold it, block b at 130 + b.
 use Prim.Native.Nat.{ℕ, zero, suc, _+_, _*_, _/_, _%_, _<_}
 use mathlib.Core.Path.{_≡_}
 use mathlib.Core.Bool.{Bool, true, cond, not, _&&_}
 use mathlib.Core.List.{List, [], _∷_, _++_}
-use lib.ListN.{length, getD, drop, replicate}
+use lib.ListN.{length, getD, take, drop, replicate}
 use lib.Dec.{leb, eqb}
 use Rattle.order.specs.Flag.{flag}
 use Rattle.coherence.specs.declared.Slot.{Slot}
@@ -17,7 +17,7 @@ use Rattle.boards.specs.Boards.{allUnits, settingsOf, setOf}
 
 -- the bytes of a directory
 abbrev pub directorySize : ℕ
-directorySize = 130
+directorySize = 194
 
 -- the bytes of the first n slots
 unfoldable pub slotBytes : ℕ → Directory → List ℕ
@@ -28,12 +28,24 @@ slotBytes (suc n) d = slotBytes n d ++ (stateNumber (slotAt d n) ∷ blockOf (sl
 unfoldable pub settingsBytes : Settings → List ℕ
 settingsBytes g = setOf g ∷ flag (g .steal) ∷ []
 
+-- the bytes before the sets of holders
+unfoldable pub frontBytes : Directory → List ℕ
+frontBytes d = slotBytes 64 d ++ settingsBytes (d .settings)
+
 unfoldable pub encoded : Directory → List ℕ
-encoded d = slotBytes 64 d ++ settingsBytes (d .settings)
+encoded d = frontBytes d ++ d .holders
 
 -- the slots' bytes put into the first places of a lent space; it stays if it is too small for a directory
 unfoldable pub slotsPut : Directory → List ℕ → List ℕ
 slotsPut d o = cond (leb directorySize (length o)) (slotBytes 64 d ++ drop 128 o) o
+
+-- the sets' bytes put into their places
+unfoldable pub setsPut : Directory → List ℕ → List ℕ
+setsPut d o = cond (leb directorySize (length o)) (take 130 o ++ d .holders ++ drop directorySize o) o
+
+-- what a call may change put there: the slots and the sets, and not the settings
+unfoldable pub leftPut : Directory → List ℕ → List ℕ
+leftPut d o = setsPut d (slotsPut d o)
 
 -- all its bytes put there
 unfoldable pub directoryPut : Directory → List ℕ → List ℕ
@@ -70,6 +82,10 @@ setIn l = getD l 128 0
 unfoldable pub stealIn : List ℕ → ℕ
 stealIn l = getD l 129 0
 
+-- the sets of holders
+unfoldable pub setsIn : List ℕ → List ℕ
+setsIn l = cond (eqb (length l) directorySize) (take 64 (drop 130 l)) (replicate 64 0)
+
 -- bytes of any other count, with a set above 15 or with steal above 1, spell no slot at all
 unfoldable pub spellsSlots : List ℕ → Bool
 spellsSlots l = eqb (length l) directorySize && leb (setIn l) allUnits && leb (stealIn l) 1
@@ -79,11 +95,12 @@ decoded l =
     record {
       slots = cond (spellsSlots l) (slotsSpelled 64 l) (replicate 64 (record { slot = noSlot }));
       settings = settingsOf (setIn l) (eqb (stealIn l) 1);
+      holders = setsIn l;
     }
 
 -- the bytes and the directory determine each other
 pub record Inverse : Type 0 where
   -- what was written is read back
-  pub back : (d : Directory) → length (d .slots) ≡ 64 → length (d .settings .boards) ≡ 4 → decoded (encoded d) ≡ d
+  pub back : (d : Directory) → length (d .slots) ≡ 64 → length (d .settings .boards) ≡ 4 → length (d .holders) ≡ 64 → decoded (encoded d) ≡ d
   -- bytes that the machine takes for a directory are the bytes of that directory, so anything else is refused as broken
   pub forth : (l : List ℕ) → sound (decoded l) ≡ true → encoded (decoded l) ≡ l

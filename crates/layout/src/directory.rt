@@ -1,5 +1,5 @@
 // The directory as bytes that a caller lends: slot n at 2 n, its state (0 I, 1 SU, 2 EM) and its block; at 128 the set of write-through boards; at
-// 129 steal, 0 or 1.
+// 129 steal, 0 or 1; at 130 + b the set of the units that hold block b.
 use boards::set_of;
 use boards::settings_of;
 use coherence::Directory;
@@ -10,7 +10,7 @@ ghost use mathlib.Core.Path.{_≡_};
 ghost use Prim.Native.Nat.{_/_, _%_};
 ghost use lib.ListN.{length, getD};
 ghost use Rattle.coherence.specs.Slots.{stateNumber, blockOf};
-ghost use Rattle.layout.specs.Directory.{Paired, blockSpelled, slotSpelled, decoded, slotsPut, directoryPut};
+ghost use Rattle.layout.specs.Directory.{Paired, blockSpelled, slotSpelled, setsIn, decoded, slotsPut, setsPut, leftPut, directoryPut};
 
 // A block that no slot may have.
 const NO_BLOCK: u8 = 255;
@@ -44,7 +44,7 @@ fn pair(state: u8, block: u8) -> u16
 
 // The 64 pairs of bytes, each as one number. The compiler then reads and compares eight of them at a time.
 fn pairs(bytes: &[u8]) -> [u16; 64]
-    requires { ⌜ length (now bytes) ≡ 130 ⌝ }
+    requires { ⌜ length (now bytes) ≡ 194 ⌝ }
     ensures { λ r. ⌜ (length r ≡ 64) × Paired (now (bytes .entry)) 64 r ⌝ }
 {
     let mut words = [0u16; 64];
@@ -92,6 +92,21 @@ fn byte_at(bytes: &[u8], place: usize) -> u8
     if place < bytes.len() { bytes[place] } else { 0 }
 }
 
+// The sets of holders, if there are as many bytes as a directory has.
+fn sets_in(bytes: &[u8]) -> [u8; 64]
+    ensures { λ r. ⌜ r ≡ setsIn (now (bytes .entry)) ⌝ }
+{
+    let mut holders = [0u8; 64];
+    if bytes.len() == 194 {
+        let mut b = 0;
+        while b < 64 {
+            holders[b] = bytes[130 + b];
+            b += 1;
+        }
+    }
+    holders
+}
+
 // The directory that the bytes spell. What spells none becomes one that breaks the rules.
 pub fn decode(bytes: &[u8]) -> Directory
     ensures { λ r. ⌜ r ≡ decoded (now (bytes .entry)) ⌝ }
@@ -99,10 +114,11 @@ pub fn decode(bytes: &[u8]) -> Directory
     let set = byte_at(bytes, 128);
     let steal = byte_at(bytes, 129);
     let settings = settings_of(set, steal == 1);
+    let holders = sets_in(bytes);
     let mut slots = [Entry {
         slot: Slot::Shared(NO_BLOCK),
     }; 64];
-    if (bytes.len() == 130) & (set <= 15) & (steal <= 1) {
+    if (bytes.len() == 194) & (set <= 15) & (steal <= 1) {
         let words = pairs(bytes);
         let mut n = 0;
         while n < 64 {
@@ -111,14 +127,18 @@ pub fn decode(bytes: &[u8]) -> Directory
             n += 1;
         }
     }
-    Directory { slots, settings }
+    Directory {
+        slots,
+        settings,
+        holders,
+    }
 }
 
 // The bytes of a directory's slots, into the first 128 of the lent space. It stays if it is too small for a directory.
-pub fn encode_slots(d: Directory, out: &mut [u8])
+fn encode_slots(d: Directory, out: &mut [u8])
     ensures { λ _. ⌜ now (out .exit) ≡ slotsPut d (now (out .entry)) ⌝ }
 {
-    if out.len() < 130 {
+    if out.len() < 194 {
         return;
     }
     let slots = d.slots;
@@ -132,12 +152,35 @@ pub fn encode_slots(d: Directory, out: &mut [u8])
     }
 }
 
-// The bytes of a directory, into the first 130 of the lent space. It stays if it is too small.
+// The bytes of its sets of holders, into their places.
+fn encode_sets(d: Directory, out: &mut [u8])
+    ensures { λ _. ⌜ now (out .exit) ≡ setsPut d (now (out .entry)) ⌝ }
+{
+    if out.len() < 194 {
+        return;
+    }
+    let holders = d.holders;
+    let mut b = 0;
+    while b < 64 {
+        out[130 + b] = holders[b];
+        b += 1;
+    }
+}
+
+// The bytes of what a call leaves: the slots and the sets of holders. Those of the settings stay.
+pub fn encode_left(d: Directory, out: &mut [u8])
+    ensures { λ _. ⌜ now (out .exit) ≡ leftPut d (now (out .entry)) ⌝ }
+{
+    encode_slots(d, out);
+    encode_sets(d, out);
+}
+
+// The bytes of a directory, into the first 194 of the lent space. It stays if it is too small.
 pub fn encode(d: Directory, out: &mut [u8])
     ensures { λ _. ⌜ now (out .exit) ≡ directoryPut d (now (out .entry)) ⌝ }
 {
-    encode_slots(d, out);
-    if 130 <= out.len() {
+    encode_left(d, out);
+    if 194 <= out.len() {
         let settings = d.settings;
         out[128] = set_of(settings);
         out[129] = flag_number(settings.steal) as u8;

@@ -5,4 +5,4 @@ mod directory;
 pub use answer::put_answer;
 pub use directory::decode;
 pub use directory::encode;
-pub use directory::encode_slots;
+pub use directory::encode_left;

@@ -8,10 +8,13 @@ use Rattle.coherence.specs.declared.Orders.{Orders}
 use Rattle.coherence.specs.declared.Answer.{Answer}
 use Rattle.coherence.specs.declared.Call.{Call}
 use Rattle.coherence.specs.Access.{Run, ready}
-use Rattle.coherence.specs.Calls.{refusal, act, loaded, after, valueOf, packed, answer, memoryAfter, cacheAfter}
+use Rattle.coherence.specs.Slots.{kept}
+use Rattle.coherence.specs.Calls.{refusal, act, loaded, settle, after, valueOf, packed, answer, memoryAfter, cacheAfter}
+use Rattle.coherence.specs.Sentences.{left}
+use Rattle.coherence.proofs.Steps.{loaded-settled}
 use Rattle.orders.specs.Orders.{answerOf}
 
-after-accepted : (d : Directory) (m k : List ℕ) (c : Call) → refusal d m k c ≡ 0 → after d m k c ≡ act c (ready d m k)
+after-accepted : (d : Directory) (m k : List ℕ) (c : Call) → refusal d m k c ≡ 0 → after d m k c ≡ settle (act c (ready d m k))
 unfolding after
 after-accepted d m k c e = rw (eq-eqb _ _ e)
 
@@ -30,16 +33,21 @@ value-refused d m k c e = rw (ne-eqb _ _ e)
 -- an accepted call, whose access comes to w
 pub comes-to : (d : Directory) (m k : List ℕ) (c : Call) {w : Run} {r : Answer} {v : ℕ} {o : Orders} {e : Directory} {m′ k′ : List ℕ}
     → refusal d m k c ≡ 0 → act c (ready d m k) ≡ w → r ≡ answerOf 0 v o e
-    → v ≡ loaded c w → o ≡ packed (w .orders) → e ≡ w .directory → m′ ≡ w .memory → k′ ≡ w .cache
+    → v ≡ loaded c w → o ≡ packed (w .orders) → e ≡ kept (w .directory) → m′ ≡ w .memory → k′ ≡ w .cache
     → (r ≡ answer d m k c) × (m′ ≡ memoryAfter d m k c) × (k′ ≡ cacheAfter d m k c)
-unfolding answerOf answer memoryAfter cacheAfter
+unfolding answerOf answer memoryAfter cacheAfter settle
 comes-to d m k c {w} z does r v o e p q =
-    let t : w ≡ after d m k c = sym (after-accepted d m k c z ∙ does) in
-    let v₁ = v ∙ ap (loaded c) t ∙ sym (value-accepted d m k c z) in (
+    let t : settle w ≡ after d m k c = sym (after-accepted d m k c z ∙ ap settle does) in
+    let v₁ = v ∙ sym (loaded-settled c w) ∙ ap (loaded c) t ∙ sym (value-accepted d m k c z) in (
       r ∙ (λ i. record { refusal = sym z i; value = v₁ i; orders = (o ∙ ap (λ (w : Run). packed (w .orders)) t) i; directory = (e ∙ ap (λ (w : Run). w .directory) t) i }),
       p ∙ ap (λ (w : Run). w .memory) t,
       q ∙ ap (λ (w : Run). w .cache) t,
     )
+
+-- the directory that it leaves
+pub directory-left : (d : Directory) (m k : List ℕ) (c : Call) {w : Run} → refusal d m k c ≡ 0 → act c (ready d m k) ≡ w → left d m k c .directory ≡ kept (w .directory)
+unfolding left answer settle
+directory-left d m k c z does = ap (λ (x : Run). x .directory) (after-accepted d m k c z ∙ ap settle does)
 
 -- a refused call
 pub refuses : (d : Directory) (m k : List ℕ) (c : Call) {n : ℕ} {r : Answer}

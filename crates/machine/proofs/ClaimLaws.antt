@@ -11,11 +11,11 @@ use borrow.Author.Tests.{ne-eqb, lt-ltb, le-ltb}
 use Rattle.coherence.specs.declared.Slot.{Slot}
 use Rattle.coherence.specs.declared.Slot.the-variants.{Invalid, Shared, Modified}
 use Rattle.coherence.specs.declared.Entry.{Entry}
-use Rattle.coherence.specs.declared.Settings.{Settings}
 use Rattle.coherence.specs.declared.Directory.{Directory}
 use Rattle.coherence.specs.Slots.{emptyEntry, place, slotAt, setSlot, holds, modified, ownerOf}
 use Rattle.coherence.proofs.Cases.{eq-or-ne, four}
 use Rattle.coherence.proofs.SlotLaws.{size, size-set, slot-same, slot-other, place-lt, place-ne, owner-cases, shared-holds, modified-holds, modified-is, is-modified}
+use Rattle.slots.proofs.OfSlots.{with}
 use Rattle.slots.specs.Directory.{released, releaseInto, expelledAtOnce, claimedAtOnce, yieldedDirectory, fetchedDirectory}
 
 -- ---- directories that have the same slots are the same
@@ -28,11 +28,9 @@ entries-same (x ∷ a) (y ∷ c) l h =
     let q : a ≡ c = entries-same a c (omega arith) (λ j. h (suc j)) in
     ap (λ (e : Entry). e ∷ a) p ∙ ap (λ (t : List Entry). y ∷ t) q
 
-slots-same : (d e : Directory) → size d ≡ size e → ((j : ℕ) → slotAt d j ≡ slotAt e j) → d .settings ≡ e .settings → d ≡ e
+slots-same : (d e : Directory) → size d ≡ size e → ((j : ℕ) → slotAt d j ≡ slotAt e j) → ((l : List Entry) → with l d ≡ with l e) → d ≡ e
 unfolding size slotAt
-slots-same d e l h g =
-    ap (λ (a : List Entry). record { slots = a; settings = d .settings }) (entries-same (d .slots) (e .slots) l h)
-    ∙ ap (λ (f : Settings). record { slots = e .slots; settings = f }) g
+slots-same d e l h g = ap (λ (a : List Entry). with a d) (entries-same (d .slots) (e .slots) l h) ∙ g (e .slots)
 
 -- ---- the slots after a claim
 module _ (u b : ℕ) (d : Directory) (l : u < 4) (z : size d ≡ 64) where
@@ -192,8 +190,8 @@ pub claim-fetched : (u b : ℕ) (d : Directory) → u < 4 → size d ≡ 64
     → claimedAtOnce u b (fetchedDirectory (place u b) b (ownerOf d b) d) ≡ claimedAtOnce u b d
 unfolding claimedAtOnce expelledAtOnce releaseInto setSlot fetchedDirectory yieldedDirectory
 claim-fetched u b d l z =
-    slots-same _ _ (size-claimed u b _ l (fetched-size u b d l z) ∙ sym (size-claimed u b d l z)) (same-slots u b d l z) (go (ltb (ownerOf d b) 4))
+    slots-same _ _ (size-claimed u b _ l (fetched-size u b d l z) ∙ sym (size-claimed u b d l z)) (same-slots u b d l z) (λ k. go k (ltb (ownerOf d b) 4))
   where
-    go : (t : Bool) → cond t (setSlot d (place (ownerOf d b) b) (Shared b)) d .settings ≡ d .settings
-    go true = refl
-    go false = refl
+    go : (k : List Entry) (t : Bool) → with k (cond t (setSlot d (place (ownerOf d b) b) (Shared b)) d) ≡ with k d
+    go k true = refl
+    go k false = refl

@@ -3,3 +3,4 @@ mod Refusals
 mod ClaimLaws
 mod Accesses
 mod Calls
+mod SetLaws

@@ -46,6 +46,7 @@ slot-block d n e h = go (slotAt d n) refl
 -- of an accepted call by unit u: the stores' sizes, the unit, the address or block, and the blocks in the directory
 pub record Known (d : Directory) (m k : List ℕ) (u : ℕ) (good : Bool) : Type 0 where
   pub sizes : Sized m k
+  pub sound : sound d ≡ true
   pub unit : u < 4
   pub target : good ≡ true
   pub block : (b : ℕ) → blockOf (slotAt d (place u b)) < 64
@@ -56,6 +57,7 @@ known d m k u good e =
     let h : u < 4 = omega (arith, unit-of u (p .2)) in
     record {
       sizes = sizes-of m k (p .0);
+      sound = p .1;
       unit = h;
       target = p .3;
       block = λ b. slot-block d (place u b) (p .1) (place-lt u b h);

@@ -1,5 +1,6 @@
 // The cache machine: cold start, loads, stores and flushes. Each call tests its inputs, and answers and leaves what the
-// definitions of `coherence` say, for every input. A call takes slots and settings apart, and its answer puts them together.
+// definitions of `coherence` say, for every input. A call takes slots, settings and sets of holders apart,
+// and its answer puts them together.
 ghost use mathlib.Core.Path.{_≡_};
 ghost use Rattle.coherence.specs.declared.Call.the-variants.{Load, Store, Flush};
 ghost use Rattle.coherence.specs.Calls.{answer, memoryAfter, cacheAfter, startAnswer, cacheStarted};
@@ -14,6 +15,9 @@ use coherence::Directory;
 use coherence::Settings;
 use coherence::Slot;
 use coherence::Start;
+use holder_sets::claimed_sets;
+use holder_sets::fetched_sets;
+use holder_sets::flushed_sets;
 use order::Command;
 use order::WRONG_SIZE;
 use orders::accepted;
@@ -38,7 +42,7 @@ use slots::set_slot;
 use slots::slot_at;
 use write_through::store_through;
 
-// All slots invalid, with the chosen settings, and the cache store all zeros. Refused, it leaves the cache store as it was.
+// All slots invalid and all sets of holders empty, with the chosen settings, and the cache store all zeros. Refused, it leaves the cache store as it was.
 pub fn cold_start(settings: Settings, memory: &[u8], cache: &mut [u8]) -> Start
     ensures { λ r. ⌜ (r ≡ startAnswer settings (now (memory .entry)) (now (cache .entry))) × (now (cache .exit) ≡ cacheStarted (now (memory .entry)) (now (cache .entry))) ⌝ }
 {
@@ -73,6 +77,7 @@ pub fn load(
     }
     let slots = directory.slots;
     let settings = directory.settings;
+    let holders = directory.holders;
     let block = (address / 32) as u8;
     let n = place_of(unit, block);
     let slot = slot_at(slots, n);
@@ -80,14 +85,15 @@ pub fn load(
     if holds_block(slot, block) {
         let value = word_at(cache, at);
         let orders = no_orders();
-        accepted(value, orders, slots, settings)
+        accepted(value, orders, slots, settings, holders)
     } else {
         let holder = owner(slots, block);
         fetch_bytes(slot, holder, memory, cache, n, block);
         let value = word_at(cache, at);
         let orders = fetch_orders(settings.steal, slot, holder, unit, Command::Read, block);
         let left = fetched(slots, n, holder, block);
-        accepted(value, orders, left, settings)
+        let sets = fetched_sets(holders, slot, unit, block);
+        accepted(value, orders, left, settings, sets)
     }
 }
 
@@ -108,6 +114,7 @@ pub fn store(
     }
     let slots = directory.slots;
     let settings = directory.settings;
+    let holders = directory.holders;
     let block = (address / 32) as u8;
     if is_through(settings, unit) {
         return store_through(directory, memory, cache, unit, block, address, value);
@@ -118,12 +125,13 @@ pub fn store(
     if has_modified(slot, block) {
         put_word(cache, at, value);
         let orders = no_orders();
-        accepted(0, orders, slots, settings)
+        accepted(0, orders, slots, settings, holders)
     } else if holds_block(slot, block) {
         put_word(cache, at, value);
         let orders = one_order(unit, Command::Invalidate, block);
         let left = claimed(slots, unit, block);
-        accepted(0, orders, left, settings)
+        let sets = claimed_sets(holders, slot, unit, block);
+        accepted(0, orders, left, settings, sets)
     } else {
         let holder = owner(slots, block);
         fetch_bytes(slot, holder, memory, cache, n, block);
@@ -137,7 +145,8 @@ pub fn store(
             block,
         );
         let left = claimed(slots, unit, block);
-        accepted(0, orders, left, settings)
+        let sets = claimed_sets(holders, slot, unit, block);
+        accepted(0, orders, left, settings, sets)
     }
 }
 
@@ -151,16 +160,18 @@ pub fn flush(directory: Directory, memory: &mut [u8], cache: &[u8], unit: u8, bl
     }
     let slots = directory.slots;
     let settings = directory.settings;
+    let holders = directory.holders;
     let n = place_of(unit, block);
     let slot = slot_at(slots, n);
     if holds_block(slot, block) {
         evict_bytes(slot, memory, cache, n);
         let orders = eviction_orders(slot, unit);
         let left = set_slot(slots, n, Slot::Invalid);
-        accepted(0, orders, left, settings)
+        let sets = flushed_sets(holders, unit, block);
+        accepted(0, orders, left, settings, sets)
     } else {
         let orders = no_orders();
-        accepted(0, orders, slots, settings)
+        accepted(0, orders, slots, settings, holders)
     }
 }
 

@@ -38,8 +38,8 @@ unfoldable pub fetchOrders : Bool → ℕ → Command → ℕ → Slot → ℕ �
 fetchOrders stolen u k b x v = evictionOrders u x ++ askOrders stolen u k b v
 
 -- a directory by its parts
-abbrev pub directoryOf : List Entry → Settings → Directory
-directoryOf l g = record { slots = l; settings = g }
+abbrev pub directoryOf : List Entry → Settings → List ℕ → Directory
+directoryOf l g h = record { slots = l; settings = g; holders = h }
 
 -- an answer by its parts
 unfoldable pub answerOf : ℕ → ℕ → Orders → Directory → Answer

@@ -176,11 +176,21 @@ pub fn fetch_orders(
     }
 }
 
-// The answer of an accepted call, which leaves these slots and keeps the settings.
-pub fn accepted(value: u32, orders: Orders, slots: [Entry; 64], settings: Settings) -> Answer
-    ensures { λ r. ⌜ r ≡ answerOf 0 value orders (directoryOf slots settings) ⌝ }
+// The answer of an accepted call, which leaves these slots and these sets of holders, and keeps the settings.
+pub fn accepted(
+    value: u32,
+    orders: Orders,
+    slots: [Entry; 64],
+    settings: Settings,
+    holders: [u8; 64],
+) -> Answer
+    ensures { λ r. ⌜ r ≡ answerOf 0 value orders (directoryOf slots settings holders) ⌝ }
 {
-    let directory = Directory { slots, settings };
+    let directory = Directory {
+        slots,
+        settings,
+        holders,
+    };
     Answer {
         refusal: 0,
         value,

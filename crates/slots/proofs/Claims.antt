@@ -18,7 +18,7 @@ use Rattle.coherence.proofs.SlotLaws.{slot-other}
 
 set-own : (d : Directory) (n : ℕ) → setSlot d n (slotAt d n) ≡ d
 unfolding setSlot slotAt
-set-own d n = ap (λ (l : List Entry). record { slots = l; settings = d .settings }) (set-getD (d .slots) n emptyEntry)
+set-own d n = ap (λ (l : List Entry). record { slots = l; settings = d .settings; holders = d .holders }) (set-getD (d .slots) n emptyEntry)
 
 -- an action on the directory alone
 unfoldable withDirectory : (Directory → Directory) → Run → Run

@@ -20,11 +20,11 @@ use Rattle.coherence.proofs.SlotLaws.{size, slot-same, slot-other}
 -- the later of two sets of one slot counts
 pub set-over : (d : Directory) (n : ℕ) (x y : Slot) → setSlot (setSlot d n x) n y ≡ setSlot d n y
 unfolding setSlot
-set-over d n x y = ap (λ (l : List Entry). record { slots = l; settings = d .settings }) (set-set (d .slots) n (record { slot = x }) (record { slot = y }))
+set-over d n x y = ap (λ (l : List Entry). record { slots = l; settings = d .settings; holders = d .holders }) (set-set (d .slots) n (record { slot = x }) (record { slot = y }))
 
 set-swap : (d : Directory) (n p : ℕ) (x y : Slot) → (n ≡ p → ⊥) → setSlot (setSlot d n x) p y ≡ setSlot (setSlot d p y) n x
 unfolding setSlot
-set-swap d n p x y e = ap (λ (l : List Entry). record { slots = l; settings = d .settings }) (set-comm (d .slots) n p (record { slot = x }) (record { slot = y }) e)
+set-swap d n p x y e = ap (λ (l : List Entry). record { slots = l; settings = d .settings; holders = d .holders }) (set-comm (d .slots) n p (record { slot = x }) (record { slot = y }) e)
 
 -- also with another set between
 pub set-past : (d : Directory) (n p : ℕ) (x y z : Slot) → setSlot (setSlot (setSlot d n x) p y) n z ≡ setSlot (setSlot d p y) n z
@@ -44,7 +44,7 @@ slot-far d n h = ap (λ (e : Entry). e .slot) (List·getD-eq-default (d .slots) 
 
 pub set-far : (d : Directory) (n : ℕ) (x : Slot) → length (d .slots) ≤ n → setSlot d n x ≡ d
 unfolding setSlot
-set-far d n x h = ap (λ (l : List Entry). record { slots = l; settings = d .settings }) (set-out (d .slots) n (record { slot = x }) h)
+set-far d n x h = ap (λ (l : List Entry). record { slots = l; settings = d .settings; holders = d .holders }) (set-out (d .slots) n (record { slot = x }) h)
 
 pub board-far : (g : Settings) (u : ℕ) → length (g .boards) ≤ u → through g u ≡ false
 unfolding through isThrough

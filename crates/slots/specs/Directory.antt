@@ -2,7 +2,7 @@
 -- are `coherence`'s; the proofs show that these come to the same.
 use Prim.Native.Nat.{ℕ, _+_}
 use mathlib.Core.Bool.{cond, not, _&&_}
-use mathlib.Core.List.{List}
+use mathlib.Core.List.{List, []}
 use lib.Dec.{ltb, eqb}
 use Rattle.coherence.specs.declared.Slot.{Slot}
 use Rattle.coherence.specs.declared.Slot.the-variants.{Invalid, Shared, Modified}
@@ -11,9 +11,15 @@ use Rattle.coherence.specs.declared.Directory.{Directory}
 use Rattle.coherence.specs.Settings.{drillSettings}
 use Rattle.coherence.specs.Slots.{place, slotAt, setSlot, holds, modified}
 
--- a directory of these slots, which the code takes and gives without the settings: nothing that is said of slots depends on them
+-- the block of a valid slot, else s
+unfoldable pub blockOr : Slot → ℕ → ℕ
+blockOr Invalid s = s
+blockOr (Shared b) s = b
+blockOr (Modified b) s = b
+
+-- a directory of these slots, which the code takes and gives without the settings and the sets: nothing that is said of slots depends on them
 abbrev pub ofSlots : List Entry → Directory
-ofSlots l = record { slots = l; settings = drillSettings }
+ofSlots l = record { slots = l; settings = drillSettings; holders = [] }
 
 -- the first of the four units whose slot has block b modified, or 4
 unfoldable pub firstModified : Slot → Slot → Slot → Slot → ℕ → ℕ

@@ -1,12 +1,12 @@
 // The directory's slots: one read, one set, the unit that has a block EM, a block taken from its holders, a claim, and what a fetch leaves; and a unit's kind
-// of board. Past the last slot one reads as invalid, and setting one changes nothing. The 64 slots go from hand to hand without the settings: so a copy of
-// them has 128 bytes (docs/PERFORMANCE.md).
+// of board. Past the last slot one reads as invalid, and setting one changes nothing. The 64 slots go from hand to hand without the settings and the sets of holders:
+// so a copy of them has 128 bytes (docs/PERFORMANCE.md).
 ghost use mathlib.Core.Path.{_≡_};
 ghost use Prim.Native.Nat.{_<_};
 ghost use Rattle.coherence.specs.Settings.{through, drillSettings};
 ghost use Rattle.coherence.specs.Slots.{place, slotAt, setSlot, holds, modified, ownerOf, coldDirectory};
 ghost use Rattle.coherence.specs.Access.{cachePlace};
-ghost use Rattle.slots.specs.Directory.{ofSlots, firstModified, released, setColumn, expelledAtOnce, claimedAtOnce, yieldedDirectory, fetchedDirectory};
+ghost use Rattle.slots.specs.Directory.{blockOr, ofSlots, firstModified, released, setColumn, expelledAtOnce, claimedAtOnce, yieldedDirectory, fetchedDirectory};
 use coherence::Board;
 use coherence::Directory;
 use coherence::Entry;
@@ -70,6 +70,17 @@ pub fn has_modified(slot: Slot, block: u8) -> bool
     }
 }
 
+// The block of a valid slot, else the other number.
+pub fn block_or(slot: Slot, other: u8) -> u8
+    ensures { λ r. ⌜ r ≡ blockOr slot other ⌝ }
+{
+    match slot {
+        Slot::Invalid => other,
+        Slot::Shared(b) => b,
+        Slot::Modified(b) => b,
+    }
+}
+
 pub fn cold_directory(settings: Settings) -> Directory
     ensures { λ r. ⌜ r ≡ coldDirectory settings ⌝ }
 {
@@ -77,7 +88,12 @@ pub fn cold_directory(settings: Settings) -> Directory
         slot: Slot::Invalid,
     };
     let slots = [entry; 64];
-    Directory { slots, settings }
+    let holders = [0u8; 64];
+    Directory {
+        slots,
+        settings,
+        holders,
+    }
 }
 
 // Four copyback boards, and steal off.

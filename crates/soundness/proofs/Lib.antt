@@ -1,3 +1,5 @@
 -- Laws that the test of the directory rests on.
+mod Turns
 mod FaultLaws
 mod KindLaws
+mod SetLaws

@@ -1,16 +1,23 @@
-// The test of the directory's rules.
+// The test of the directory's rules: of the slots, of the boards' kinds and of the sets of holders. Each goes over numbers of 8 bits, without early exit, so
+// that the compiler takes sixteen slots at a time (docs/PERFORMANCE.md).
 ghost use mathlib.Core.Path.{_≡_};
+ghost use mathlib.Core.Bool.{_&&_};
 ghost use Prim.Native.Nat.{_≤_, _<_};
-ghost use Rattle.coherence.specs.Slots.{stateNumber, soundSlots, soundKinds, sound};
-ghost use Rattle.soundness.specs.Soundness.{blockOr, misplacedIn, conflictOf, faultsOf, modifiedOf, modifiedBelow, keepsKind};
+ghost use Rattle.coherence.specs.Slots.{stateNumber, sound};
+ghost use Rattle.slots.specs.Directory.{blockOr};
+ghost use Rattle.soundness.specs.Soundness.{noBlock, SlotBySlot, Ranks, misplacedIn, conflictOf, faultsOf, faultless, noneModified, keepsKind, kindsKept, weighed, setOf, setsAgree};
 use coherence::Directory;
 use coherence::Entry;
 use coherence::Settings;
 use coherence::Slot;
+use slots::block_or;
 use slots::is_through;
 
+// What stands for the block of an invalid slot.
+const NO_BLOCK: u8 = 255;
+
 // 0 invalid, 1 shared, 2 modified.
-fn rank(slot: Slot) -> u16
+fn rank(slot: Slot) -> u8
     ensures { λ r. ⌜ (r ≡ stateNumber slot) × (r ≤ 2) ⌝ }
 {
     match slot {
@@ -20,22 +27,43 @@ fn rank(slot: Slot) -> u16
     }
 }
 
-// The block of a valid slot, else s.
-fn block_or(slot: Slot, s: u16) -> u16
-    ensures { λ r. ⌜ r ≡ blockOr slot s ⌝ }
+// The rank of each slot.
+fn ranks_of(slots: [Entry; 64]) -> [u8; 64]
+    ensures { λ r. ⌜ SlotBySlot stateNumber slots 64 r ⌝ }
 {
-    match slot {
-        Slot::Invalid => s,
-        Slot::Shared(b) => b as u16,
-        Slot::Modified(b) => b as u16,
+    let mut ranks = [0u8; 64];
+    let mut n = 0;
+    while n < 64 {
+        let entry = slots[n];
+        let slot = entry.slot;
+        ranks[n] = rank(slot);
+        n += 1;
     }
+    ranks
 }
 
-// 1 where block b may not stand in slot s of a unit, else 0.
-fn misplaced(b: u16, s: u16) -> u16
-    ensures { λ r. ⌜ (r ≡ misplacedIn b s) × (r ≤ 1) ⌝ }
+// The block of each valid slot.
+fn blocks_of(slots: [Entry; 64]) -> [u8; 64]
+    ensures { λ r. ⌜ SlotBySlot (λ x. blockOr x noBlock) slots 64 r ⌝ }
 {
-    if b < 64 {
+    let mut blocks = [0u8; 64];
+    let mut n = 0;
+    while n < 64 {
+        let entry = slots[n];
+        let slot = entry.slot;
+        blocks[n] = block_or(slot, NO_BLOCK);
+        n += 1;
+    }
+    blocks
+}
+
+// 1 where block b may not stand in slot s of a unit, which is of this rank, else 0.
+fn misplaced(b: u8, rank: u8, s: u8) -> u8
+    ensures { λ r. ⌜ (r ≡ misplacedIn b rank s) × (r ≤ 1) ⌝ }
+{
+    if rank == 0 {
+        0
+    } else if b < 64 {
         if b % 16 == s { 0 } else { 1 }
     } else {
         1
@@ -43,7 +71,7 @@ fn misplaced(b: u16, s: u16) -> u16
 }
 
 // 1 where two units' slots have one block, one of them EM and the other valid, else 0.
-fn conflict(b: u16, rank_b: u16, c: u16, rank_c: u16) -> u16
+fn conflict(b: u8, rank_b: u8, c: u8, rank_c: u8) -> u8
     requires { ⌜ («rank_b» ≤ 2) × («rank_c» ≤ 2) ⌝ }
     ensures { λ r. ⌜ (r ≡ conflictOf b «rank_b» c «rank_c») × (r ≤ 1) ⌝ }
 {
@@ -54,22 +82,15 @@ fn conflict(b: u16, rank_b: u16, c: u16, rank_c: u16) -> u16
     }
 }
 
-// How many rules the four units' slots s break: each by itself, and each two together.
-fn faults(s: u16, w: Slot, x: Slot, y: Slot, z: Slot) -> u16
-    ensures { λ r. ⌜ (r ≡ faultsOf s w x y z) × (r ≤ 10) ⌝ }
+// How many rules the four units' slots s break, with blocks bw to bz and ranks rw to rz: each by itself, and each two together.
+fn faults(s: u8, bw: u8, bx: u8, by: u8, bz: u8, rw: u8, rx: u8, ry: u8, rz: u8) -> u8
+    requires { ⌜ («rw» ≤ 2) × («rx» ≤ 2) × («ry» ≤ 2) × («rz» ≤ 2) ⌝ }
+    ensures { λ r. ⌜ r ≡ faultsOf s «bw» «bx» «by» «bz» «rw» «rx» «ry» «rz» ⌝ }
 {
-    let bw = block_or(w, s);
-    let bx = block_or(x, s);
-    let by = block_or(y, s);
-    let bz = block_or(z, s);
-    let rw = rank(w);
-    let rx = rank(x);
-    let ry = rank(y);
-    let rz = rank(z);
-    let f0 = misplaced(bw, s);
-    let f1 = misplaced(bx, s);
-    let f2 = misplaced(by, s);
-    let f3 = misplaced(bz, s);
+    let f0 = misplaced(bw, rw, s);
+    let f1 = misplaced(bx, rx, s);
+    let f2 = misplaced(by, ry, s);
+    let f3 = misplaced(bz, rz, s);
     let c0 = conflict(bw, rw, bx, rx);
     let c1 = conflict(bw, rw, by, ry);
     let c2 = conflict(bw, rw, bz, rz);
@@ -79,89 +100,126 @@ fn faults(s: u16, w: Slot, x: Slot, y: Slot, z: Slot) -> u16
     f0 + f1 + f2 + f3 + c0 + c1 + c2 + c3 + c4 + c5
 }
 
-// The test of the slots: one pass over the slot numbers, faults summed, with no early exit.
-fn slots_sound(directory: Directory) -> bool
-    ensures { λ r. ⌜ r ≡ soundSlots directory ⌝ }
+// The test of the slots: slot number by slot number.
+fn slots_sound(blocks: [u8; 64], ranks: [u8; 64]) -> bool
+    requires { ⌜ Ranks ranks ⌝ }
+    ensures { λ r. ⌜ r ≡ faultless 16 blocks ranks ⌝ }
 {
-    let slots = directory.slots;
-    let mut bad: u16 = 0;
+    let mut good = true;
     let mut s = 0;
     while s < 16 {
-        let w = slots[s];
-        let x = slots[16 + s];
-        let y = slots[32 + s];
-        let z = slots[48 + s];
-        let ws = w.slot;
-        let xs = x.slot;
-        let ys = y.slot;
-        let zs = z.slot;
-        bad += faults(s as u16, ws, xs, ys, zs);
+        let bad = faults(
+            s as u8,
+            blocks[s],
+            blocks[16 + s],
+            blocks[32 + s],
+            blocks[48 + s],
+            ranks[s],
+            ranks[16 + s],
+            ranks[32 + s],
+            ranks[48 + s],
+        );
+        good = good & (bad == 0);
         s += 1;
     }
-    bad == 0
+    good
 }
 
-// 1 where the slot is EM, else 0.
-fn modified(slot: Slot) -> u16
-    ensures { λ r. ⌜ (r ≡ modifiedOf slot) × (r ≤ 1) ⌝ }
-{
-    match slot {
-        Slot::Invalid => 0,
-        Slot::Shared(_) => 0,
-        Slot::Modified(_) => 1,
-    }
-}
-
-// How many slots of the unit are EM.
-fn modified_count(slots: [Entry; 64], unit: u8) -> u16
+// Whether no slot of the unit is EM.
+fn none_modified(ranks: [u8; 64], unit: u8) -> bool
     requires { ⌜ unit < 4 ⌝ }
-    ensures { λ r. ⌜ r ≡ modifiedBelow 16 unit slots ⌝ }
+    ensures { λ r. ⌜ r ≡ noneModified 16 ranks unit ⌝ }
 {
     let first = 16 * (unit as usize);
-    let mut count: u16 = 0;
+    let mut good = true;
     let mut s = 0;
     while s < 16 {
-        let entry = slots[first + s];
-        let slot = entry.slot;
-        count += modified(slot);
+        good = good & (ranks[first + s] != 2);
         s += 1;
     }
-    count
+    good
 }
 
 // Whether the unit has a copyback board, or no slot EM.
-fn keeps_kind(slots: [Entry; 64], settings: Settings, unit: u8) -> bool
+fn keeps_kind(ranks: [u8; 64], settings: Settings, unit: u8) -> bool
     requires { ⌜ unit < 4 ⌝ }
-    ensures { λ r. ⌜ r ≡ keepsKind slots settings unit ⌝ }
+    ensures { λ r. ⌜ r ≡ keepsKind ranks settings unit ⌝ }
 {
     if is_through(settings, unit) {
-        modified_count(slots, unit) == 0
+        none_modified(ranks, unit)
     } else {
         true
     }
 }
 
 // The test of the kinds. It costs next to nothing where all boards are copyback boards.
-fn kinds_sound(directory: Directory) -> bool
-    ensures { λ r. ⌜ r ≡ soundKinds directory ⌝ }
+fn kinds_sound(ranks: [u8; 64], settings: Settings) -> bool
+    ensures { λ r. ⌜ r ≡ kindsKept 4 ranks settings ⌝ }
 {
-    let slots = directory.slots;
-    let settings = directory.settings;
     let mut good = true;
     let mut unit: u8 = 0;
     while unit < 4 {
-        good = good & keeps_kind(slots, settings, unit);
+        good = good & keeps_kind(ranks, settings, unit);
         unit += 1;
     }
     good
+}
+
+// The weight where two blocks are the same, else 0.
+fn weight_if(c: u8, b: u8, weight: u8) -> u8
+    ensures { λ r. ⌜ (r ≡ weighed c b weight) × (r ≤ weight) ⌝ }
+{
+    if c == b { weight } else { 0 }
+}
+
+// The set of the units that have block b, of those with blocks w to z.
+fn set_of(w: u8, x: u8, y: u8, z: u8, b: u8) -> u8
+    ensures { λ r. ⌜ r ≡ setOf w x y z b ⌝ }
+{
+    weight_if(w, b, 1) + weight_if(x, b, 2) + weight_if(y, b, 4) + weight_if(z, b, 8)
+}
+
+// The test of the sets of the blocks 16 * row to 16 * row + 15, whose slots are the four units' slots 0 to 15.
+fn row_sound(blocks: [u8; 64], holders: [u8; 64], row: u8) -> bool
+    requires { ⌜ row < 4 ⌝ }
+    ensures { λ r. ⌜ r ≡ setsAgree 16 blocks holders row ⌝ }
+{
+    let first = 16 * (row as usize);
+    let mut good = true;
+    let mut s = 0;
+    while s < 16 {
+        let b = s as u8 + 16 * row;
+        let set = set_of(blocks[s], blocks[16 + s], blocks[32 + s], blocks[48 + s], b);
+        good = good & (set == holders[first + s]);
+        s += 1;
+    }
+    good
+}
+
+// The test of the sets of holders.
+fn sets_sound(blocks: [u8; 64], holders: [u8; 64]) -> bool
+    ensures { λ r. ⌜ r ≡ (setsAgree 16 blocks holders 0 && setsAgree 16 blocks holders 1 && setsAgree 16 blocks holders 2 && setsAgree 16 blocks holders 3) ⌝ }
+{
+    row_sound(blocks, holders, 0)
+        & row_sound(blocks, holders, 1)
+        & row_sound(blocks, holders, 2)
+        & row_sound(blocks, holders, 3)
 }
 
 // The test of the directory's rules.
 pub fn is_sound(directory: Directory) -> bool
     ensures { λ r. ⌜ r ≡ sound directory ⌝ }
 {
-    if slots_sound(directory) {
-        kinds_sound(directory)
+    let slots = directory.slots;
+    let blocks = blocks_of(slots);
+    let ranks = ranks_of(slots);
+    if slots_sound(blocks, ranks) {
+        if kinds_sound(ranks, directory.settings) {
+            let holders = directory.holders;
+            sets_sound(blocks, holders)
+        } else {
+            false
+        }
     } else {
         false
     }

@@ -24,11 +24,11 @@ fn filled(base: u8) -> [u8; 2049] {
 
 // The directory's bytes of a row: place and byte of each, from the seventh number on. The first comes last, so that numbers that are not given, 0, change
 // nothing.
-fn directory_of(v: [u64; 48]) -> [u8; 130] {
-    let mut directory = [0u8; 130];
+fn directory_of(v: [u64; 48]) -> [u8; 194] {
+    let mut directory = [0u8; 194];
     for k in 0..21 {
         let at = 46 - 2 * k;
-        let place = (v[at] % 130) as usize;
+        let place = (v[at] % 194) as usize;
         directory[place] = (v[at + 1] % 256) as u8;
     }
     directory
@@ -150,6 +150,17 @@ pub(crate) fn newest(given: Row) {
         &mut offset,
     );
     show_all(&[refusal, store, offset]);
+}
+
+// Two numbers, the block, three numbers, the directory: the set of the units that hold the block, and how many they are.
+pub(crate) fn units(given: Row) {
+    let n = given.small;
+    let v = given.values;
+    let directory = directory_of(v);
+    let mut set = 0u32;
+    let mut count = 0u32;
+    let refusal = capi_holders::trainer_holders(&directory, n[2], &mut set, &mut count);
+    show_all(&[refusal, set, count]);
 }
 
 fn cold(directory: &mut [u8], memory: &[u8], cache: &mut [u8], write_through: u32, steal: u32) {

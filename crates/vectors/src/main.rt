@@ -22,6 +22,7 @@ fn answer(letter: u8, given: Row) {
         b'm' => caches::machine(given),
         b'n' => caches::newest(given),
         b's' => caches::start(given),
+        b'u' => caches::units(given),
         _ => tapes::reading(letter, given),
     }
 }
@@ -54,7 +55,7 @@ fn lines(text: &[u8]) {
 }
 
 fn main() {
-    let mut text = [0u8; 65536];
+    let mut text = [0u8; 131072];
     let count = io::read_full(libc::STDIN_FILENO, &mut text);
     lines(&text[..count]);
 }

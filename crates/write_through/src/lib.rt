@@ -5,12 +5,13 @@ ghost use Rattle.order.specs.declared.Command.the-variants.{MemoryWrite};
 ghost use Rattle.coherence.specs.Slots.{ownerOf};
 ghost use Rattle.coherence.specs.Calls.{packed};
 ghost use Rattle.orders.specs.Orders.{askOrders, answerOf};
-ghost use Rattle.write_through.specs.Through.{throughDirectory, throughMemory, throughCache};
+ghost use Rattle.write_through.specs.Through.{throughLeft, throughMemory, throughCache};
 use blocks::put_word;
 use blocks::put_word_if;
 use blocks::yield_bytes;
 use coherence::Answer;
 use coherence::Directory;
+use holder_sets::through_sets;
 use order::Command;
 use orders::accepted;
 use orders::ask_orders;
@@ -32,10 +33,11 @@ pub fn store_through(
     address: u32,
     value: u32,
 ) -> Answer
-    ensures { λ r. ⌜ (r ≡ answerOf 0 0 (packed (askOrders false unit MemoryWrite block (ownerOf directory block))) (throughDirectory unit block directory)) × (now (memory .exit) ≡ throughMemory block address value directory (now (memory .entry)) (now (cache .entry))) × (now (cache .exit) ≡ throughCache unit block address value directory (now (cache .entry))) ⌝ }
+    ensures { λ r. ⌜ (r ≡ answerOf 0 0 (packed (askOrders false unit MemoryWrite block (ownerOf directory block))) (throughLeft unit block directory)) × (now (memory .exit) ≡ throughMemory block address value directory (now (memory .entry)) (now (cache .entry))) × (now (cache .exit) ≡ throughCache unit block address value directory (now (cache .entry))) ⌝ }
 {
     let slots = directory.slots;
     let settings = directory.settings;
+    let holders = directory.holders;
     let holder = owner(slots, block);
     yield_bytes(holder, memory, cache, block);
     put_word(memory, address, value);
@@ -43,5 +45,6 @@ pub fn store_through(
     let left = expelled(yielded(slots, holder, block), unit, block);
     let held = holds_block(slot_at(left, place_of(unit, block)), block);
     put_word_if(held, cache, cache_place(unit, address), value);
-    accepted(0, orders, left, settings)
+    let sets = through_sets(holders, unit, block, held);
+    accepted(0, orders, left, settings, sets)
 }

@@ -36,8 +36,8 @@ answered c =
     let s = c .store .ensures in
     record { answers = rw (d, n) at (s .0); memory = rw (d, n) at (s .1); cache = rw (d, n) at (s .2) }
 
-encode-slots-requires : tie.Need-encode-slots-requires
-encode-slots-requires c κs = search needs
+encode-left-requires : tie.Need-encode-left-requires
+encode-left-requires c κs = search needs
 
 put-answer-requires : tie.Need-put-answer-requires
 put-answer-requires c κs = search needs
@@ -57,7 +57,7 @@ same-length-4 c = search needs
 returns-2 : tie.Need-returns-2
 returns-2 c =
     let a = c .before .before .before .before .before .before .before .before .before .before .before .before .before .before .before .before .before .before .before .before .before .before .before .before .before .before .args in
-    let l = accepted-over (a .directory .now) (a .memory .now) (a .cache .now) (a .answer .now) _ _ _ _ _ _ (answered (c .before .before .before .before .before .before .before .before .before .before .before .before .before .before .before)) (c .before .before .before .before .before .before .before .before .before .before .before .before .before .before .before .before .before .before .before .before .before .if1 .left) (c .before .before .before .before .before .before .before .before .before .if2 .taken) (c .before .before .before .before .before .before .encode-slots .ensures) (c .before .before .put-answer .ensures) in
+    let l = accepted-over (a .directory .now) (a .memory .now) (a .cache .now) (a .answer .now) _ _ _ _ _ _ (answered (c .before .before .before .before .before .before .before .before .before .before .before .before .before .before .before)) (c .before .before .before .before .before .before .before .before .before .before .before .before .before .before .before .before .before .before .before .before .before .if1 .left) (c .before .before .before .before .before .before .before .before .before .if2 .taken) (c .before .before .before .before .before .before .encode-left .ensures) (c .before .before .put-answer .ensures) in
     (l .code, l .directory, l .memory, l .cache, l .answer)
 
 cast-result-2 : tie.Need-cast-result-2
@@ -87,7 +87,7 @@ trainer-store-spec =
     decode-requires
     byte-requires
     store-requires
-    encode-slots-requires
+    encode-left-requires
     put-answer-requires
     same-length
     same-length-2

@@ -1,6 +1,11 @@
 -- `machine::load` meets its contract.
+use lib.ListN.{length}
+use Rattle.coherence.proofs.SlotLaws.{size}
+use Rattle.slots.proofs.Sets.{length-mapped}
+use Rattle.machine.proofs.SetLaws.{settled, unchanged, load-sets}
+use Rattle.machine.proofs.load.Lts as lts
 use native.Mathlib.Omega.{arith}
-use mathlib.Core.Path.{refl, sym, _∙_}
+use mathlib.Core.Path.{_≡_, refl, sym, _∙_}
 use Rattle.coherence.specs.Calls.{unitOf, isTarget, refusal, act, loaded}
 use Rattle.coherence.specs.declared.Call.the-variants.{Load}
 use Rattle.slots.proofs.OfSlots.{of-slot, of-owner, of-fetched}
@@ -11,6 +16,14 @@ use Rattle.machine.proofs.Calls.{comes-to, refuses}
 use borrow.Author.Needs.{needs}
 use Rattle.machine.proofs.load.Statement.{statement}
 use Rattle.machine.proofs.load.Tie as tie
+
+-- the directory that is given has its slots and its sets
+whole : (k : lts.Claims) (p : _) (q : _) (c : lts.Start k p q) → size (c .args .directory) ≡ 64
+unfolding size
+whole k p q c = let h : length (c .args .directory .slots) ≡ 64 = search (needs, length-mapped) in h
+
+sets : (k : lts.Claims) (p : _) (q : _) (c : lts.Start k p q) → length (c .args .directory .holders) ≡ 64
+sets k p q c = search needs
 
 is-address-requires : tie.Need-is-address-requires
 is-address-requires c κs = search needs
@@ -36,8 +49,8 @@ returns c =
 
 cast-block : tie.Need-cast-block
 cast-block c =
-    let e = rw (c .before .before .before .before .is-address .ensures) at (c .before .before .before .refusal-of .ensures) in
-    let h = known _ _ _ _ _ (sym e ∙ c .before .before .if1 .left) in
+    let e = rw (c .before .before .before .before .before .is-address .ensures) at (c .before .before .before .before .refusal-of .ensures) in
+    let h = known _ _ _ _ _ (sym e ∙ c .before .before .before .if1 .left) in
     omega (arith, address-of _ (h .target) .1)
 
 place-of-requires : tie.Need-place-of-requires
@@ -76,6 +89,9 @@ fetch-orders-requires c κs = search needs
 fetched-requires : tie.Need-fetched-requires
 fetched-requires c κs = search needs
 
+fetched-sets-requires : tie.Need-fetched-sets-requires
+fetched-sets-requires c κs = search needs
+
 accepted-requires-2 : tie.Need-accepted-requires-2
 accepted-requires-2 c κs = search needs
 
@@ -88,15 +104,15 @@ same-length-4 c = search needs
 returns-2 : tie.Need-returns-2
 unfolding refusal unitOf isTarget act loaded
 returns-2 c =
-    let a = c .before .before .before .before .before .before .before .before .before .before .before .before .before .before .before .before .before .before .args in
-    let e = rw (c .before .before .before .before .before .before .before .before .before .before .before .before .before .is-address .ensures) at (c .before .before .before .before .before .before .before .before .before .before .before .before .refusal-of .ensures) in
-    let z = sym e ∙ c .before .before .before .before .before .before .before .before .before .before .before .if1 .left in
+    let a = c .before .before .before .before .before .before .before .before .before .before .before .before .before .before .before .before .before .before .before .args in
+    let e = rw (c .before .before .before .before .before .before .before .before .before .before .before .before .before .before .is-address .ensures) at (c .before .before .before .before .before .before .before .before .before .before .before .before .before .refusal-of .ensures) in
+    let z = sym e ∙ c .before .before .before .before .before .before .before .before .before .before .before .before .if1 .left in
     let q = known _ _ _ _ _ z in
     let s = (rw (c .before .before .before .before .before .before .before .before .place-of .ensures) at (c .before .before .before .before .before .before .before .slot-at .ensures)) ∙ of-slot (a .directory) _ in
     let h = sym (rw s at (c .before .before .before .before .before .holds-block .ensures)) ∙ c .before .before .before .before .if2 .taken in
     comes-to _ _ _ (Load _ _) z (load-held _ _ _ _ _ h) (c .accepted .ensures)
     (rw (c .before .before .before .before .before .before .cache-place .ensures) at (c .before .before .word-at .ensures) ∙ loaded-in _ _ _ _ _ _ q refl)
-    (c .before .no-orders .ensures) refl refl refl
+    (c .before .no-orders .ensures) (unchanged _ _ _ _ _ q (sets _ _ _ (c .before .before .before .before .before .before .before .before .before .before .before .before .before .before .before .before .before .before .before))) refl refl
 
 same-length-5 : tie.Need-same-length-5
 same-length-5 c = search needs
@@ -107,18 +123,20 @@ same-length-6 c = search needs
 returns-3 : tie.Need-returns-3
 unfolding refusal unitOf isTarget act loaded
 returns-3 c =
-    let a = c .before .before .before .before .before .before .before .before .before .before .before .before .before .before .before .before .before .before .before .before .before .before .before .before .before .before .before .args in
-    let e = rw (c .before .before .before .before .before .before .before .before .before .before .before .before .before .before .before .before .before .before .before .before .before .before .is-address .ensures) at (c .before .before .before .before .before .before .before .before .before .before .before .before .before .before .before .before .before .before .before .before .before .refusal-of .ensures) in
-    let z = sym e ∙ c .before .before .before .before .before .before .before .before .before .before .before .before .before .before .before .before .before .before .before .before .if1 .left in
+    let a = c .before .before .before .before .before .before .before .before .before .before .before .before .before .before .before .before .before .before .before .before .before .before .before .before .before .before .before .before .before .args in
+    let e = rw (c .before .before .before .before .before .before .before .before .before .before .before .before .before .before .before .before .before .before .before .before .before .before .before .before .is-address .ensures) at (c .before .before .before .before .before .before .before .before .before .before .before .before .before .before .before .before .before .before .before .before .before .before .before .refusal-of .ensures) in
+    let z = sym e ∙ c .before .before .before .before .before .before .before .before .before .before .before .before .before .before .before .before .before .before .before .before .before .before .if1 .left in
     let q = known _ _ _ _ _ z in
-    let n = c .before .before .before .before .before .before .before .before .before .before .before .before .before .before .before .before .before .place-of .ensures in
-    let s = (rw n at (c .before .before .before .before .before .before .before .before .before .before .before .before .before .before .before .before .slot-at .ensures)) ∙ of-slot (a .directory) _ in
-    let h = sym (rw s at (c .before .before .before .before .before .before .before .before .before .before .before .before .before .before .holds-block .ensures)) ∙ c .before .before .before .before .before .before .before .before .before .before .before .before .before .if2 .left in
-    let v = c .before .before .before .before .before .before .before .before .before .before .before .before .owner .ensures ∙ of-owner (a .directory) _ in
-    let f = rw (s, n, v) at (c .before .before .before .before .before .before .before .before .before .fetch-bytes .ensures) in
-    comes-to _ _ _ (Load _ _) z (load-missed _ _ _ _ _ q h) (c .accepted2 .ensures)
-    (rw (f .1, c .before .before .before .before .before .before .before .before .before .before .before .before .before .before .before .cache-place .ensures) at (c .before .before .before .word-at2 .ensures) ∙ loaded-in _ _ _ _ _ _ q (length-fetched _ _ _ _ _ _ .1))
-    (rw (s, v) at (c .before .before .fetch-orders .ensures)) (of-fetched (a .directory) _ _ _ (rw (n, v) at (c .before .fetched .ensures))) (f .0) (f .1)
+    let n = c .before .before .before .before .before .before .before .before .before .before .before .before .before .before .before .before .before .before .place-of .ensures in
+    let s = (rw n at (c .before .before .before .before .before .before .before .before .before .before .before .before .before .before .before .before .before .slot-at .ensures)) ∙ of-slot (a .directory) _ in
+    let h = sym (rw s at (c .before .before .before .before .before .before .before .before .before .before .before .before .before .before .before .holds-block .ensures)) ∙ c .before .before .before .before .before .before .before .before .before .before .before .before .before .before .if2 .left in
+    let v = c .before .before .before .before .before .before .before .before .before .before .before .before .before .owner .ensures ∙ of-owner (a .directory) _ in
+    let f = rw (s, n, v) at (c .before .before .before .before .before .before .before .before .before .before .fetch-bytes .ensures) in
+    let x = load-missed _ _ _ _ _ q h in
+    let y = (rw s at (c .before .fetched-sets .ensures)) ∙ load-sets _ _ _ (whole _ _ _ (c .before .before .before .before .before .before .before .before .before .before .before .before .before .before .before .before .before .before .before .before .before .before .before .before .before .before .before .before .before)) (sets _ _ _ (c .before .before .before .before .before .before .before .before .before .before .before .before .before .before .before .before .before .before .before .before .before .before .before .before .before .before .before .before .before)) _ _ q z x h in
+    comes-to _ _ _ (Load _ _) z x (c .accepted2 .ensures)
+    (rw (f .1, c .before .before .before .before .before .before .before .before .before .before .before .before .before .before .before .before .cache-place .ensures) at (c .before .before .before .before .word-at2 .ensures) ∙ loaded-in _ _ _ _ _ _ q (length-fetched _ _ _ _ _ _ .1))
+    (rw (s, v) at (c .before .before .before .fetch-orders .ensures)) (settled (a .directory) (of-fetched (a .directory) _ _ _ (rw (n, v) at (c .before .before .fetched .ensures))) y) (f .0) (f .1)
 
 pub load-spec : {M : Type 1} → statement M
-load-spec = tie.close (tie.spec is-address-requires refusal-of-requires refused-requires same-length same-length-2 returns cast-block place-of-requires slot-at-requires cache-place-requires holds-block-requires word-at-requires no-orders-requires accepted-requires owner-requires fetch-bytes-requires word-at-requires-2 fetch-orders-requires fetched-requires accepted-requires-2 same-length-3 same-length-4 returns-2 same-length-5 same-length-6 returns-3)
+load-spec = tie.close (tie.spec is-address-requires refusal-of-requires refused-requires same-length same-length-2 returns cast-block place-of-requires slot-at-requires cache-place-requires holds-block-requires word-at-requires no-orders-requires accepted-requires owner-requires fetch-bytes-requires word-at-requires-2 fetch-orders-requires fetched-requires fetched-sets-requires accepted-requires-2 same-length-3 same-length-4 returns-2 same-length-5 same-length-6 returns-3)

@@ -1,34 +1,9 @@
 -- `soundness::faults` meets its contract.
-use borrow.Author.Needs.{needs}
-use mathlib.Core.Path.{refl}
-use Rattle.soundness.specs.Soundness.{faultsOf, placeFaults, pairFaults}
 use native.Mathlib.Omega.{arith}
+use Rattle.soundness.specs.Soundness.{faultsOf}
+use borrow.Author.Needs.{needs}
 use Rattle.soundness.proofs.faults.Statement.{statement}
 use Rattle.soundness.proofs.faults.Tie as tie
-
-block-or-requires : tie.Need-block-or-requires
-block-or-requires c κs = search needs
-
-block-or-requires-2 : tie.Need-block-or-requires-2
-block-or-requires-2 c κs = search needs
-
-block-or-requires-3 : tie.Need-block-or-requires-3
-block-or-requires-3 c κs = search needs
-
-block-or-requires-4 : tie.Need-block-or-requires-4
-block-or-requires-4 c κs = search needs
-
-rank-requires : tie.Need-rank-requires
-rank-requires c κs = search needs
-
-rank-requires-2 : tie.Need-rank-requires-2
-rank-requires-2 c κs = search needs
-
-rank-requires-3 : tie.Need-rank-requires-3
-rank-requires-3 c κs = search needs
-
-rank-requires-4 : tie.Need-rank-requires-4
-rank-requires-4 c κs = search needs
 
 misplaced-requires : tie.Need-misplaced-requires
 misplaced-requires c κs = search needs
@@ -88,44 +63,13 @@ add-result-9 : tie.Need-add-result-9
 add-result-9 c = search needs
 
 returns : tie.Need-returns
-unfolding faultsOf placeFaults pairFaults
-returns c = (
-  rw (
-    c .conflict6 .ensures .0,
-    c .before .conflict5 .ensures .0,
-    c .before .before .conflict4 .ensures .0,
-    c .before .before .before .conflict3 .ensures .0,
-    c .before .before .before .before .conflict2 .ensures .0,
-    c .before .before .before .before .before .conflict .ensures .0,
-    c .before .before .before .before .before .before .misplaced4 .ensures .0,
-    c .before .before .before .before .before .before .before .misplaced3 .ensures .0,
-    c .before .before .before .before .before .before .before .before .misplaced2 .ensures .0,
-    c .before .before .before .before .before .before .before .before .before .misplaced .ensures .0,
-    c .before .before .before .before .before .before .before .before .before .before .rank4 .ensures .0,
-    c .before .before .before .before .before .before .before .before .before .before .before .rank3 .ensures .0,
-    c .before .before .before .before .before .before .before .before .before .before .before .before .rank2 .ensures .0,
-    c .before .before .before .before .before .before .before .before .before .before .before .before .before .rank .ensures .0,
-    c .before .before .before .before .before .before .before .before .before .before .before .before .before .before .block-or4 .ensures,
-    c .before .before .before .before .before .before .before .before .before .before .before .before .before .before .before .block-or3 .ensures,
-    c .before .before .before .before .before .before .before .before .before .before .before .before .before .before .before .before .block-or2 .ensures,
-    c .before .before .before .before .before .before .before .before .before .before .before .before .before .before .before .before .before .block-or .ensures,
-  )
-      refl,
-  omega arith,
-)
+unfolding faultsOf
+returns c = omega arith
 
 pub faults-spec : {M : Type 1} → statement M
 faults-spec =
     tie.close
     (tie.spec
-    block-or-requires
-    block-or-requires-2
-    block-or-requires-3
-    block-or-requires-4
-    rank-requires
-    rank-requires-2
-    rank-requires-3
-    rank-requires-4
     misplaced-requires
     misplaced-requires-2
     misplaced-requires-3

@@ -1,63 +1,74 @@
 -- `soundness::slots_sound` meets its contract.
-use borrow.Author.Needs.{needs}
-use Prim.Native.Nat.{ℕ, _≤_, _-_, _*_}
-use mathlib.Core.Path.{_≡_, sym, _∙_, ap}
+use Prim.Native.Nat.{_+_, _≤_, _-_}
+use mathlib.Core.Path.{_≡_, refl}
 use native.Mathlib.Omega.{arith}
-use Rattle.numeric.specs.Bits.{sumBelow}
-use Rattle.soundness.proofs.FaultLaws.{faultsAt, sum-zero, count-step, count-sound}
+use Rattle.soundness.specs.Soundness.{Ranks, faultsAt, faultless}
+use Rattle.soundness.proofs.Turns.{none-yet, one-more}
+use borrow.Author.Needs.{needs}
 use Rattle.soundness.proofs.slots_sound.Statement.{statement}
 use Rattle.soundness.proofs.slots_sound.Tie as tie
 
 abbrev Inv-loop : tie.InvT-loop
-Inv-loop a bad₀ s₀ bad s = (s ≤ 16) × (bad ≤ 10 * s) × (bad ≡ sumBelow s (faultsAt a))
+Inv-loop blocks ranks good₀ s₀ good s = (s ≤ 16) × (good ≡ faultless s blocks ranks)
 
 abbrev μ-loop : tie.MeasureT-loop
-μ-loop a bad₀ s₀ bad s = 16 - s
+μ-loop blocks ranks good₀ s₀ good s = 16 - s
 
 loop-holds : tie.Need-loop-holds Inv-loop μ-loop
-loop-holds c = (omega arith, omega arith, sym (sum-zero _))
-
-mul-w : tie.Need-mul-w Inv-loop μ-loop
-mul-w c = search needs
-
-array-copy-out-w : tie.Need-array-copy-out-w Inv-loop μ-loop
-array-copy-out-w c = search needs
-
-add-x : tie.Need-add-x Inv-loop μ-loop
-add-x c = search needs
-
-mul-x : tie.Need-mul-x Inv-loop μ-loop
-mul-x c = search needs
-
-array-copy-out-x : tie.Need-array-copy-out-x Inv-loop μ-loop
-array-copy-out-x c = search needs
-
-add-y : tie.Need-add-y Inv-loop μ-loop
-add-y c = search needs
-
-mul-y : tie.Need-mul-y Inv-loop μ-loop
-mul-y c = search needs
-
-array-copy-out-y : tie.Need-array-copy-out-y Inv-loop μ-loop
-array-copy-out-y c = search needs
-
-add-z : tie.Need-add-z Inv-loop μ-loop
-add-z c = search needs
-
-mul-z : tie.Need-mul-z Inv-loop μ-loop
-mul-z c = search needs
-
-array-copy-out-z : tie.Need-array-copy-out-z Inv-loop μ-loop
-array-copy-out-z c = search needs
+unfolding faultless
+loop-holds c = (omega arith, none-yet _)
 
 cast-faults : tie.Need-cast-faults Inv-loop μ-loop
 cast-faults c = search needs
 
-faults-requires : tie.Need-faults-requires Inv-loop μ-loop
-faults-requires c κs = search needs
+array-read-faults : tie.Need-array-read-faults Inv-loop μ-loop
+array-read-faults c = search needs
 
-add-bad : tie.Need-add-bad Inv-loop μ-loop
-add-bad c = search needs
+add-faults : tie.Need-add-faults Inv-loop μ-loop
+add-faults c = search needs
+
+array-read-faults-2 : tie.Need-array-read-faults-2 Inv-loop μ-loop
+array-read-faults-2 c = search needs
+
+add-faults-2 : tie.Need-add-faults-2 Inv-loop μ-loop
+add-faults-2 c = search needs
+
+array-read-faults-3 : tie.Need-array-read-faults-3 Inv-loop μ-loop
+array-read-faults-3 c = search needs
+
+add-faults-3 : tie.Need-add-faults-3 Inv-loop μ-loop
+add-faults-3 c = search needs
+
+array-read-faults-4 : tie.Need-array-read-faults-4 Inv-loop μ-loop
+array-read-faults-4 c = search needs
+
+array-read-faults-5 : tie.Need-array-read-faults-5 Inv-loop μ-loop
+array-read-faults-5 c = search needs
+
+add-faults-4 : tie.Need-add-faults-4 Inv-loop μ-loop
+add-faults-4 c = search needs
+
+array-read-faults-6 : tie.Need-array-read-faults-6 Inv-loop μ-loop
+array-read-faults-6 c = search needs
+
+add-faults-5 : tie.Need-add-faults-5 Inv-loop μ-loop
+add-faults-5 c = search needs
+
+array-read-faults-7 : tie.Need-array-read-faults-7 Inv-loop μ-loop
+array-read-faults-7 c = search needs
+
+add-faults-6 : tie.Need-add-faults-6 Inv-loop μ-loop
+add-faults-6 c = search needs
+
+array-read-faults-8 : tie.Need-array-read-faults-8 Inv-loop μ-loop
+array-read-faults-8 c = search needs
+
+faults-requires : tie.Need-faults-requires Inv-loop μ-loop
+unfolding Ranks
+faults-requires c κs =
+    let s = c .before .loop .s in
+    let low = c .before .before .pre in
+    (low s (omega arith), low (16 + s) (omega arith), low (32 + s) (omega arith), low (48 + s) (omega arith))
 
 add-s : tie.Need-add-s Inv-loop μ-loop
 add-s c = search needs
@@ -66,16 +77,16 @@ loop-less : tie.Need-loop-less Inv-loop μ-loop
 loop-less c = search needs
 
 loop-again : tie.Need-loop-again Inv-loop μ-loop
-unfolding faultsAt
+unfolding faultsAt faultless
 loop-again c =
-    let l = c .before .before .before .before .before .before .loop in
-    (omega arith, omega arith, count-step (c .before .before .before .before .before .before .before .before .args .directory .slots) (l .s) (l .bad) _ (l .inv .2) (c .faults .ensures .0))
+    let l = c .before .before .loop in
+    (omega arith, one-more _ (l .s) (l .good) _ (l .inv .1) (rw (c .faults .ensures) refl))
 
 returns : tie.Need-returns Inv-loop μ-loop
 returns c =
     let l = c .before .loop in
     let e : l .s ≡ 16 = omega arith in
-    count-sound (c .before .before .before .args .directory) (l .bad) (l .inv .2 ∙ ap (λ (k : ℕ). sumBelow k (faultsAt (c .before .before .before .args .directory .slots))) e)
+    rw e at (l .inv .1)
 
 pub slots-sound-spec : {M : Type 1} → statement M
 slots-sound-spec =
@@ -84,20 +95,22 @@ slots-sound-spec =
     Inv-loop
     μ-loop
     loop-holds
-    mul-w
-    array-copy-out-w
-    add-x
-    mul-x
-    array-copy-out-x
-    add-y
-    mul-y
-    array-copy-out-y
-    add-z
-    mul-z
-    array-copy-out-z
     cast-faults
+    array-read-faults
+    add-faults
+    array-read-faults-2
+    add-faults-2
+    array-read-faults-3
+    add-faults-3
+    array-read-faults-4
+    array-read-faults-5
+    add-faults-4
+    array-read-faults-6
+    add-faults-5
+    array-read-faults-7
+    add-faults-6
+    array-read-faults-8
     faults-requires
-    add-bad
     add-s
     loop-less
     loop-again

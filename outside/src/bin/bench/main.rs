@@ -21,7 +21,7 @@ const ROUNDS: usize = 41;
 /// Directory, stores and the answer's space, as a caller holds them.
 #[derive(Clone, PartialEq, Debug)]
 struct Lent {
-    directory: [u8; 130],
+    directory: [u8; 194],
     memory: [u8; 2048],
     cache: [u8; 2048],
     answer: [u32; 18],
@@ -30,8 +30,8 @@ struct Lent {
 impl Lent {
     /// A cold machine with this set of write-through units, and with steal on (1) or off (0).
     fn cold(write_through: u8, steal: u8) -> Lent {
-        let mut directory = [0; 130];
-        directory[128..].copy_from_slice(&[write_through, steal]);
+        let mut directory = [0; 194];
+        directory[128..130].copy_from_slice(&[write_through, steal]);
         Lent { directory, memory: [7; 2048], cache: [0; 2048], answer: [0; 18] }
     }
 }
@@ -42,6 +42,7 @@ enum Call {
     Store(u32, u32, u32),
     Flush(u32, u32),
     Peek(u32),
+    Holders(u32),
 }
 
 #[derive(Clone, Copy)]
@@ -59,21 +60,25 @@ fn run(side: Side, lent: &mut Lent, calls: &[Call]) -> u64 {
     let mut sum = 0u64;
     for &call in calls {
         let (mut store, mut offset) = (0, 0);
+        let (mut set, mut count) = (0, 0);
         let code = match (side, call) {
             (Side::Proved, Call::Load(u, x)) => archive::load(d, m, k, u, x, a),
             (Side::Proved, Call::Store(u, x, v)) => archive::store(d, m, k, u, x, v, a),
             (Side::Proved, Call::Flush(u, b)) => archive::flush(d, m, k, u, b, a),
             (Side::Proved, Call::Peek(b)) => archive::peek(d, m, k, b, &mut store, &mut offset),
+            (Side::Proved, Call::Holders(b)) => archive::holders(d, b, &mut set, &mut count),
             (Side::Typed, Call::Load(u, x)) => typed::trainer_load(d, m, k, u, x, a),
             (Side::Typed, Call::Store(u, x, v)) => typed::trainer_store(d, m, k, u, x, v, a),
             (Side::Typed, Call::Flush(u, b)) => typed::trainer_flush(d, m, k, u, b, a),
             (Side::Typed, Call::Peek(b)) => typed::trainer_peek(d, m, k, b, &mut store, &mut offset),
+            (Side::Typed, Call::Holders(b)) => typed::trainer_holders(d, b, &mut set, &mut count),
             (Side::Packed, Call::Load(u, x)) => packed::trainer_load(d, m, k, u, x, a),
             (Side::Packed, Call::Store(u, x, v)) => packed::trainer_store(d, m, k, u, x, v, a),
             (Side::Packed, Call::Flush(u, b)) => packed::trainer_flush(d, m, k, u, b, a),
             (Side::Packed, Call::Peek(b)) => packed::trainer_peek(d, m, k, b, &mut store, &mut offset),
+            (Side::Packed, Call::Holders(b)) => packed::trainer_holders(d, b, &mut set, &mut count),
         };
-        sum += (code + a[0] + 8 * a[1] + store + offset) as u64;
+        sum += (code + a[0] + 8 * a[1] + store + offset + set + 16 * count) as u64;
     }
     sum
 }
@@ -522,7 +527,7 @@ fn mix_row(program: &str) {
                         )
                     }
                     _ => {
-                        let state = RefCell::new(([0u8; 130], [0u8; 2048], [0u8; 2048]));
+                        let state = RefCell::new(([0u8; 194], [0u8; 2048], [0u8; 2048]));
                         mix(
                             |u, a| {
                                 let (d, m, k) = &mut *state.borrow_mut();
@@ -568,6 +573,8 @@ fn main() {
             if random.one_in(2) { Call::Load(u, x) } else { Call::Store(u, x, random.next()) }
         })
         .collect();
+    let asked: Vec<Call> = (0..4096).map(|_| Call::Holders(random.below(64))).collect();
+    calls_row("holders", &mix, &asked);
     calls_row("random loads and stores", &[], &mix);
     settings_row("random loads and stores, two write-through boards", (0b0101, 0), &[], &mix);
     settings_row("random loads and stores, steal on", (0, 1), &[], &mix);

@@ -1,7 +1,9 @@
-//! Plain Rust on the directory's bytes where they lie: nothing is decoded, and only the slots that change are written.
-use crate::typed::{clash, hand_over, misfit, Answer, Order};
+//! Plain Rust on the directory's bytes where they lie: nothing is decoded, and only the slots and sets that change are written. Where a block is held is asked
+//! of its set.
+use crate::typed::{hand_over, Answer, Order};
+use std::array::from_fn;
 
-type Directory = [u8; 130];
+type Directory = [u8; 194];
 
 fn writes_through(d: &Directory, u: usize) -> bool {
     d[128] >> u & 1 == 1
@@ -28,52 +30,75 @@ fn set(d: &mut Directory, n: usize, state: u8, block: u8) {
     d[2 * n..2 * n + 2].copy_from_slice(&(state as u16 | (block as u16) << 8).to_le_bytes());
 }
 
-fn rank(x: u16) -> u16 {
-    x & 255
+/// The set of a block's holders, where it lies; a block is at most 63.
+fn holders(d: &mut Directory, b: u8) -> &mut u8 {
+    &mut d[130 + b as usize % 64]
 }
 
-fn seat(x: u16, s: u16) -> u16 {
-    if rank(x) == 0 { s } else { x >> 8 }
+fn held_by(d: &Directory, b: u8) -> u8 {
+    d[130 + b as usize % 64]
 }
 
-/// The bytes spell no slot: a state above 2, or an invalid slot with a block.
-fn unspelled(x: u16) -> u16 {
-    (rank(x) > 2 || (rank(x) == 0 && x != 0)) as u16
-}
-
-/// Whether a unit has an EM slot, its states being at most 2: four slots at a time.
-fn has_modified(d: &Directory, u: usize) -> bool {
-    let four = |bytes: &[u8]| u64::from_le_bytes(bytes.try_into().expect("eight bytes"));
-    d[32 * u..32 * u + 32].chunks_exact(8).fold(0, |slots, bytes| slots | four(bytes)) & 0x0002_0002_0002_0002 != 0
-}
-
-/// The rules of the directory; `LENT` also tests that bytes from outside spell slots and settings at all.
+/// The rules of the directory, sixteen slots of each unit at a time, with no jump; `LENT` also tests that bytes from outside spell slots and settings at all.
+/// The two bytes of a slot are one number first, which the compiler reads with wide loads. An invalid slot's block becomes 255, which is no block.
 fn sound<const LENT: bool>(d: &Directory) -> bool {
-    let mut faults = (LENT && (d[128] > 15 || d[129] > 1)) as u16;
-    let slots: [u16; 64] = std::array::from_fn(|n| slot(d, n));
-    for s in 0..16usize {
-        let (w, x, y, z) = (slots[s], slots[16 + s], slots[32 + s], slots[48 + s]);
-        let k = s as u16;
-        let (bw, bx, by, bz) = (seat(w, k), seat(x, k), seat(y, k), seat(z, k));
-        let (rw, rx, ry, rz) = (rank(w), rank(x), rank(y), rank(z));
-        if LENT {
-            faults += unspelled(w) + unspelled(x) + unspelled(y) + unspelled(z);
+    let slots: [[u16; 16]; 4] = from_fn(|u| from_fn(|s| slot(d, 16 * u + s)));
+    let states: [[u8; 16]; 4] = from_fn(|u| from_fn(|s| slots[u][s] as u8));
+    let blocks: [[u8; 16]; 4] = from_fn(|u| from_fn(|s| (slots[u][s] >> 8) as u8));
+    let (mut faults, mut most, mut modified) = ((LENT && (d[128] > 15 || d[129] > 1)) as u8, 0, 0);
+    for s in 0..16 {
+        let t: [u8; 4] = from_fn(|u| states[u][s]);
+        let (mut b, mut valid, mut sets) = ([0u8; 4], 0u8, [0u8; 4]);
+        for u in 0..4 {
+            let invalid = if t[u] == 0 { 255 } else { 0 };
+            if LENT {
+                faults |= blocks[u][s] & invalid;
+                most = t[u].max(most);
+            }
+            b[u] = blocks[u][s] | invalid;
+            valid |= !invalid & 1 << u;
+            for k in 0..4 {
+                sets[k] |= if b[u] == (16 * k + s) as u8 { 1 << u } else { 0 };
+            }
         }
-        faults += misfit(bw, k) + misfit(bx, k) + misfit(by, k) + misfit(bz, k);
-        faults += clash(bw, rw, bx, rx) + clash(bw, rw, by, ry) + clash(bw, rw, bz, rz);
-        faults += clash(bx, rx, by, ry) + clash(bx, rx, bz, rz) + clash(by, ry, bz, rz);
+        // Each valid slot is in the set of one of the slot's four blocks, and these sets are the kept ones.
+        faults |= valid ^ (sets[0] | sets[1] | sets[2] | sets[3]);
+        for k in 0..4 {
+            faults |= sets[k] ^ d[130 + 16 * k + s];
+        }
+        // No two units have a block that is EM in one of them.
+        for u in 1..4 {
+            for v in 0..u {
+                faults |= if b[u] == b[v] { (t[u] | t[v]) & 2 } else { 0 };
+            }
+        }
+        modified |= (t[0] & 2) >> 1 | t[1] & 2 | (t[2] & 2) << 1 | (t[3] & 2) << 2;
     }
-    faults == 0 && (0..4).all(|u| !(writes_through(d, u) && has_modified(d, u)))
+    faults == 0 && most <= 2 && modified & d[128] == 0
 }
 
 fn holds(d: &Directory, u: usize, b: u8) -> bool {
-    let n = 16 * u + b as usize % 16;
-    state(d, n) != 0 && block(d, n) == b
+    held_by(d, b) >> u & 1 == 1
 }
 
 fn modified(d: &Directory, u: usize, b: u8) -> bool {
-    let n = 16 * u + b as usize % 16;
-    state(d, n) == 2 && block(d, n) == b
+    holds(d, u, b) && state(d, 16 * u + b as usize % 16) == 2
+}
+
+/// The unit that has the block EM: it is the only one in the block's set.
+fn modifier(d: &Directory, b: u8) -> Option<usize> {
+    let first = held_by(d, b).trailing_zeros() as usize;
+    (first < 4 && state(d, 16 * first + b as usize % 16) == 2).then_some(first)
+}
+
+/// No other unit than `u` holds the block any more.
+fn expel(d: &mut Directory, u: usize, b: u8) {
+    let mut others = held_by(d, b) & !(1 << u);
+    *holders(d, b) &= 1 << u;
+    while others != 0 {
+        set(d, 16 * others.trailing_zeros() as usize + b as usize % 16, 0, 0);
+        others &= others - 1;
+    }
 }
 
 fn refusal<const LENT: bool>(d: Option<&Directory>, memory: &[u8], cache: &[u8], unit: u32, good: bool) -> u32 {
@@ -107,15 +132,12 @@ fn copyback(memory: &mut [u8], cache: &[u8], u: usize, b: u8, a: &mut Answer) {
 
 /// The order, retried where another unit has the block EM; a read or modified read that is retried is not given again with steal on.
 fn request(d: &mut Directory, memory: &mut [u8], cache: &[u8], u: usize, b: u8, command: u8, a: &mut Answer) {
-    for v in 0..4 {
-        if v != u && modified(d, v, b) {
-            push(a, u, command, b, true);
-            copyback(memory, cache, v, b, a);
-            set(d, 16 * v + b as usize % 16, 1, b);
-            if steals(d) && command != 4 {
-                return;
-            }
-            break;
+    if let Some(v) = modifier(d, b) {
+        push(a, u, command, b, true);
+        copyback(memory, cache, v, b, a);
+        set(d, 16 * v + b as usize % 16, 1, b);
+        if steals(d) && command != 4 {
+            return;
         }
     }
     push(a, u, command, b, false);
@@ -123,14 +145,16 @@ fn request(d: &mut Directory, memory: &mut [u8], cache: &[u8], u: usize, b: u8, 
 
 fn fetch(d: &mut Directory, memory: &mut [u8], cache: &mut [u8], u: usize, b: u8, command: u8, a: &mut Answer) {
     let s = b as usize % 16;
-    if state(d, 16 * u + s) == 2 {
-        copyback(memory, cache, u, block(d, 16 * u + s), a);
+    let (held, old) = (state(d, 16 * u + s), block(d, 16 * u + s));
+    if held == 2 {
+        copyback(memory, cache, u, old, a);
     }
-    set(d, 16 * u + s, 0, 0);
+    *holders(d, old) &= !(((held != 0) as u8) << u);
     request(d, memory, cache, u, b, command, a);
     let (from, to) = (32 * b as usize, 512 * u + 32 * s);
     cache[to..to + 32].copy_from_slice(&memory[from..from + 32]);
     set(d, 16 * u + s, 1, b);
+    *holders(d, b) |= 1 << u;
 }
 
 /// An accepted load.
@@ -156,11 +180,7 @@ fn write_through(d: &mut Directory, memory: &mut [u8], cache: &mut [u8], u: usiz
         let at = 512 * u + 32 * s + address as usize % 32;
         cache[at..at + 4].copy_from_slice(&value.to_be_bytes());
     }
-    for v in 0..4 {
-        if v != u && holds(d, v, b) {
-            set(d, 16 * v + s, 0, 0);
-        }
-    }
+    expel(d, u, b);
     a
 }
 
@@ -178,11 +198,7 @@ pub fn store(d: &mut Directory, memory: &mut [u8], cache: &mut [u8], u: usize, a
         } else {
             fetch(d, memory, cache, u, b, 1, &mut a);
         }
-        for v in 0..4 {
-            if v != u && holds(d, v, b) {
-                set(d, 16 * v + s, 0, 0);
-            }
-        }
+        expel(d, u, b);
         set(d, 16 * u + s, 2, b);
     }
     let at = 512 * u + 32 * s + address as usize % 32;
@@ -198,6 +214,7 @@ pub fn flush(d: &mut Directory, memory: &mut [u8], cache: &[u8], u: usize, b: u8
             copyback(memory, cache, u, b, &mut a);
         }
         set(d, 16 * u + b as usize % 16, 0, 0);
+        *holders(d, b) &= !(1 << u);
     }
     a
 }
@@ -265,10 +282,21 @@ pub fn trainer_peek(directory: &[u8], memory: &[u8], cache: &[u8], block: u32, s
     let d = <&Directory>::try_from(directory).ok();
     let number = refusal::<true>(d, memory, cache, 0, block <= 63);
     if let (0, Some(d)) = (number, d) {
-        (*store, *offset) = match (0..4).find(|&u| modified(d, u, block as u8)) {
+        (*store, *offset) = match modifier(d, block as u8) {
             Some(u) => (1, 512 * u as u32 + 32 * (block % 16)),
             None => (0, 32 * block),
         };
     }
     number
+}
+
+#[inline(never)]
+pub fn trainer_holders(directory: &[u8], block: u32, set: &mut u32, count: &mut u32) -> u32 {
+    let Some(d) = <&Directory>::try_from(directory).ok().filter(|d| sound::<true>(d)) else { return 2 };
+    if block > 63 {
+        return 4;
+    }
+    *set = held_by(d, block as u8).into();
+    *count = set.count_ones();
+    0
 }

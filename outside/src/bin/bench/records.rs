@@ -261,7 +261,7 @@ fn print(tape: &[u8], out: &mut Text) {
         out.put(b"refused 9 at 65536\n");
         return;
     }
-    let (mut d, mut memory, mut cache) = ([0u8; 130], [0u8; 2048], [0u8; 2048]);
+    let (mut d, mut memory, mut cache) = ([0u8; 194], [0u8; 2048], [0u8; 2048]);
     let (mut place, mut calls, mut orders) = (0, 0u64, 0u64);
     while place < tape.len() {
         let n = match read(tape, place) {

@@ -1,6 +1,7 @@
-//! Plain Rust with the proved library's types: before a call the directory's bytes become slots and kinds of boards, both enums, and steal, a bool; after it
-//! these become bytes again.
-//! The test of the directory is the branch-free one, which the compiler vectorises; for EM slots of write-through units it looks at those units alone.
+//! Plain Rust with the proved library's types: before a call the directory's bytes become slots and kinds of boards, both enums, steal, a bool, and the sets
+//! of holders; after it these become bytes again.
+//! The test of the directory is the branch-free one, which the compiler vectorises.
+use std::array::from_fn;
 
 #[derive(Clone, Copy)]
 #[repr(u8)]
@@ -22,12 +23,13 @@ pub struct Directory {
     slots: [Slot; 64],
     kinds: [Kind; 4],
     steal: bool,
+    holders: [u8; 64],
 }
 
 impl Directory {
-    /// All slots invalid, copyback boards, and steal off.
+    /// All slots invalid, all sets of holders empty, copyback boards, and steal off.
     pub fn cold() -> Directory {
-        Directory { slots: [Invalid; 64], kinds: [Kind::Copyback; 4], steal: false }
+        Directory { slots: [Invalid; 64], kinds: [Kind::Copyback; 4], steal: false, holders: [0; 64] }
     }
 }
 
@@ -61,7 +63,7 @@ impl Answer {
     }
 }
 
-fn rank(slot: Slot) -> u16 {
+fn rank(slot: Slot) -> u8 {
     match slot {
         Invalid => 0,
         Shared(_) => 1,
@@ -69,37 +71,52 @@ fn rank(slot: Slot) -> u16 {
     }
 }
 
-fn seat(slot: Slot, s: u16) -> u16 {
+/// 255, which is no block, for an invalid slot.
+fn block(slot: Slot) -> u8 {
     match slot {
-        Invalid => s,
-        Shared(b) | Modified(b) => b as u16,
+        Invalid => 255,
+        Shared(b) | Modified(b) => b,
     }
 }
 
-pub fn misfit(b: u16, s: u16) -> u16 {
-    (b >= 64 || b % 16 != s) as u16
-}
-
-pub fn clash(b: u16, t: u16, c: u16, v: u16) -> u16 {
-    (b == c && t + v >= 3) as u16
-}
-
-fn has_modified(d: &Directory, u: usize) -> bool {
-    d.slots[16 * u..16 * u + 16].iter().fold(0, |ranks, &slot| ranks | rank(slot)) >= 2
-}
-
+/// The rules of the directory, sixteen slots of each unit at a time, with no jump. Rank and block of a slot are one number first, which the compiler reads
+/// with wide loads; found by one match, they would cost a jump for each slot.
 fn sound(d: &Directory) -> bool {
-    let mut faults = 0u16;
+    let slots: [u16; 64] = from_fn(|n| {
+        let b = block(d.slots[n]);
+        rank(d.slots[n]) as u16 | (b as u16) << 8
+    });
+    let ranks: [u8; 64] = from_fn(|n| slots[n] as u8);
+    let blocks: [u8; 64] = from_fn(|n| (slots[n] >> 8) as u8);
+    let (mut faults, mut modified) = (0, 0);
     for s in 0..16 {
-        let k = s as u16;
-        let (w, x, y, z) = (d.slots[s], d.slots[16 + s], d.slots[32 + s], d.slots[48 + s]);
-        let (bw, bx, by, bz) = (seat(w, k), seat(x, k), seat(y, k), seat(z, k));
-        let (rw, rx, ry, rz) = (rank(w), rank(x), rank(y), rank(z));
-        faults += misfit(bw, k) + misfit(bx, k) + misfit(by, k) + misfit(bz, k);
-        faults += clash(bw, rw, bx, rx) + clash(bw, rw, by, ry) + clash(bw, rw, bz, rz);
-        faults += clash(bx, rx, by, ry) + clash(bx, rx, bz, rz) + clash(by, ry, bz, rz);
+        let (r, b): ([u8; 4], [u8; 4]) = (from_fn(|u| ranks[16 * u + s]), from_fn(|u| blocks[16 * u + s]));
+        let (mut valid, mut sets) = (0u8, [0u8; 4]);
+        for u in 0..4 {
+            valid |= if r[u] == 0 { 0 } else { 1 << u };
+            for k in 0..4 {
+                sets[k] |= if b[u] == (16 * k + s) as u8 { 1 << u } else { 0 };
+            }
+        }
+        // Each valid slot is in the set of one of the slot's four blocks, and these sets are the kept ones.
+        faults |= valid ^ (sets[0] | sets[1] | sets[2] | sets[3]);
+        for k in 0..4 {
+            faults |= sets[k] ^ d.holders[16 * k + s];
+        }
+        // No two units have a block that is EM in one of them.
+        for u in 1..4 {
+            for v in 0..u {
+                faults |= if b[u] == b[v] { (r[u] | r[v]) & 2 } else { 0 };
+            }
+        }
+        modified |= (r[0] & 2) >> 1 | r[1] & 2 | (r[2] & 2) << 1 | (r[3] & 2) << 2;
     }
-    faults == 0 && (0..4).all(|u| !(d.kinds[u] == Kind::WriteThrough && has_modified(d, u)))
+    faults == 0 && modified & write_through_set(d) == 0
+}
+
+fn write_through_set(d: &Directory) -> u8 {
+    let [w, x, y, z] = d.kinds.map(|kind| (kind == Kind::WriteThrough) as u8);
+    w + 2 * x + 4 * y + 8 * z
 }
 
 fn holds(d: &Directory, u: usize, b: u8) -> bool {
@@ -147,16 +164,36 @@ fn request(d: &mut Directory, memory: &mut [u8], cache: &[u8], u: usize, b: u8, 
     a.push(u, command, b, false);
 }
 
+/// The unit does not hold the block any more, which it has in its slot.
+fn release(d: &mut Directory, u: usize, b: u8) {
+    d.slots[16 * u + b as usize % 16] = Invalid;
+    d.holders[b as usize] &= !(1 << u);
+}
+
+/// No other unit than `u` holds the block any more.
+fn expel(d: &mut Directory, u: usize, b: u8) {
+    for v in 0..4 {
+        if v != u && holds(d, v, b) {
+            release(d, v, b);
+        }
+    }
+}
+
 fn fetch(d: &mut Directory, memory: &mut [u8], cache: &mut [u8], u: usize, b: u8, command: u8, a: &mut Answer) {
     let s = b as usize % 16;
-    if let Modified(old) = d.slots[16 * u + s] {
-        copyback(memory, cache, u, old, a);
+    match d.slots[16 * u + s] {
+        Invalid => {}
+        Shared(old) => release(d, u, old),
+        Modified(old) => {
+            copyback(memory, cache, u, old, a);
+            release(d, u, old);
+        }
     }
-    d.slots[16 * u + s] = Invalid;
     request(d, memory, cache, u, b, command, a);
     let (from, to) = (32 * b as usize, 512 * u + 32 * s);
     cache[to..to + 32].copy_from_slice(&memory[from..from + 32]);
     d.slots[16 * u + s] = Shared(b);
+    d.holders[b as usize] |= 1 << u;
 }
 
 pub fn load(d: &mut Directory, memory: &mut [u8], cache: &mut [u8], unit: u32, address: u32) -> Answer {
@@ -185,11 +222,7 @@ fn write_through(d: &mut Directory, memory: &mut [u8], cache: &mut [u8], u: usiz
         let at = 512 * u + 32 * s + address as usize % 32;
         cache[at..at + 4].copy_from_slice(&value.to_be_bytes());
     }
-    for v in 0..4 {
-        if v != u && holds(d, v, b) {
-            d.slots[16 * v + s] = Invalid;
-        }
-    }
+    expel(d, u, b);
     a
 }
 
@@ -210,11 +243,7 @@ pub fn store(d: &mut Directory, memory: &mut [u8], cache: &mut [u8], unit: u32, 
         } else {
             fetch(d, memory, cache, u, b, 1, &mut a);
         }
-        for v in 0..4 {
-            if v != u && holds(d, v, b) {
-                d.slots[16 * v + s] = Invalid;
-            }
-        }
+        expel(d, u, b);
         d.slots[16 * u + s] = Modified(b);
     }
     let at = 512 * u + 32 * s + address as usize % 32;
@@ -233,7 +262,7 @@ pub fn flush(d: &mut Directory, memory: &mut [u8], cache: &[u8], unit: u32, bloc
         if modified(d, u, b) {
             copyback(memory, cache, u, b, &mut a);
         }
-        d.slots[16 * u + b as usize % 16] = Invalid;
+        release(d, u, b);
     }
     a
 }
@@ -251,18 +280,19 @@ pub fn tested_store(d: &mut Directory, memory: &mut [u8], cache: &mut [u8], unit
 
 /// Bytes that spell no directory become slots that no rule allows.
 fn decode(bytes: &[u8]) -> Directory {
-    let mut d = Directory { slots: [Shared(255); 64], kinds: [Kind::Copyback; 4], steal: false };
-    let Ok(bytes) = <&[u8; 130]>::try_from(bytes) else { return d };
+    let mut d = Directory { slots: [Shared(255); 64], kinds: [Kind::Copyback; 4], steal: false, holders: [0; 64] };
+    let Ok(bytes) = <&[u8; 194]>::try_from(bytes) else { return d };
     if bytes[128] > 15 || bytes[129] > 1 {
         return d;
     }
+    let pairs: [u16; 64] = from_fn(|n| u16::from_le_bytes([bytes[2 * n], bytes[2 * n + 1]]));
     for n in 0..64 {
         // The block first, and then a choice of constants: the compiler makes this loop free of branches.
-        let (state, block) = (bytes[2 * n], bytes[2 * n + 1]);
-        let b = if state == 1 || state == 2 { block } else { 255 };
+        let state = pairs[n] as u8;
+        let b = if state == 1 || state == 2 { (pairs[n] >> 8) as u8 } else { 255 };
         d.slots[n] = if state == 2 {
             Modified(b)
-        } else if state == 0 && block == 0 {
+        } else if pairs[n] == 0 {
             Invalid
         } else {
             Shared(b)
@@ -270,11 +300,12 @@ fn decode(bytes: &[u8]) -> Directory {
     }
     d.kinds = [0, 1, 2, 3].map(|u| if bytes[128] >> u & 1 == 1 { Kind::WriteThrough } else { Kind::Copyback });
     d.steal = bytes[129] == 1;
+    d.holders.copy_from_slice(&bytes[130..]);
     d
 }
 
 fn encode(d: &Directory, bytes: &mut [u8]) {
-    let bytes: &mut [u8; 130] = bytes.try_into().expect("a sound directory has 130 bytes");
+    let bytes: &mut [u8; 194] = bytes.try_into().expect("a sound directory has 194 bytes");
     for n in 0..64 {
         let (state, block) = match d.slots[n] {
             Invalid => (0, 0),
@@ -284,9 +315,9 @@ fn encode(d: &Directory, bytes: &mut [u8]) {
         bytes[2 * n] = state;
         bytes[2 * n + 1] = block;
     }
-    let [w, x, y, z] = d.kinds.map(|kind| (kind == Kind::WriteThrough) as u8);
-    bytes[128] = w + 2 * x + 4 * y + 8 * z;
+    bytes[128] = write_through_set(d);
     bytes[129] = d.steal as u8;
+    bytes[130..].copy_from_slice(&d.holders);
 }
 
 pub fn hand_over(a: &Answer, answer: &mut [u32]) {
@@ -347,4 +378,16 @@ pub fn trainer_peek(directory: &[u8], memory: &[u8], cache: &[u8], block: u32, s
         };
     }
     number
+}
+
+#[inline(never)]
+pub fn trainer_holders(directory: &[u8], block: u32, set: &mut u32, count: &mut u32) -> u32 {
+    let d = decode(directory);
+    if !sound(&d) {
+        return 2;
+    }
+    let Some(&units) = d.holders.get(block as usize) else { return 4 };
+    *set = units.into();
+    *count = units.count_ones();
+    0
 }

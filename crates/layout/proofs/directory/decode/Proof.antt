@@ -15,10 +15,10 @@ use Rattle.layout.proofs.directory.decode.Statement.{statement}
 use Rattle.layout.proofs.directory.decode.Tie as tie
 
 abbrev Inv-loop : tie.InvT-loop
-Inv-loop bytes set steal settings slots₀ words n₀ slots n = (n ≤ 64) × (length slots ≡ 64) × (take n slots ≡ slotsSpelled n bytes)
+Inv-loop bytes set steal settings holders slots₀ words n₀ slots n = (n ≤ 64) × (length slots ≡ 64) × (take n slots ≡ slotsSpelled n bytes)
 
 abbrev μ-loop : tie.MeasureT-loop
-μ-loop bytes set steal settings slots₀ words n₀ slots n = 64 - n
+μ-loop bytes set steal settings holders slots₀ words n₀ slots n = 64 - n
 
 byte-at-requires : tie.Need-byte-at-requires Inv-loop μ-loop
 byte-at-requires c κs = search needs
@@ -29,11 +29,14 @@ byte-at-requires-2 c κs = search needs
 settings-of-requires : tie.Need-settings-of-requires Inv-loop μ-loop
 settings-of-requires c κs = search needs
 
+sets-in-requires : tie.Need-sets-in-requires Inv-loop μ-loop
+sets-in-requires c κs = search needs
+
 pairs-requires : tie.Need-pairs-requires Inv-loop μ-loop
 pairs-requires c κs =
-    let b = c .before .before .before .before .before .args .bytes .now in
-    let set = c .before .before .before .byte-at .result in
-    let steal = c .before .before .byte-at2 .result in
+    let b = c .before .before .before .before .before .before .args .bytes .now in
+    let set = c .before .before .before .before .byte-at .result in
+    let steal = c .before .before .before .byte-at2 .result in
     let first-two = both (eqb (length b) directorySize && leb set 15) (leb steal 1) (c .if1 .taken) .0 in
     eqb-true (length b) directorySize (both (eqb (length b) directorySize) (leb set 15) first-two .0)
 
@@ -66,7 +69,7 @@ loop-again : tie.Need-loop-again Inv-loop μ-loop
 unfolding Paired
 loop-again c =
     let l = c .before .before .loop in
-    let b = c .before .before .before .before .before .before .before .before .before .args .bytes .now in
+    let b = c .before .before .before .before .before .before .before .before .before .before .args .bytes .now in
     let p = c .before .before .before .pairs .ensures .1 (l .n) (omega arith) in (
       omega arith,
       simp length-set (omega arith),
@@ -77,19 +80,19 @@ returns : tie.Need-returns Inv-loop μ-loop
 unfolding decoded spellsSlots setIn stealIn
 returns c =
     let l = c .before .loop in
-    let b = c .before .before .before .before .before .before .before .before .args .bytes .now in
+    let b = c .before .before .before .before .before .before .before .before .before .args .bytes .now in
     let e : l .n ≡ 64 = omega arith in
     let whole : l .slots ≡ slotsSpelled 64 b = sym (take-all 64 (l .slots) (omega arith)) ∙ (rw e at (l .inv .2)) in
-    let s = c .before .before .before .before .before .before .byte-at .ensures in
-    let t = c .before .before .before .before .before .byte-at2 .ensures in
-    rw (rw (s, t) at (c .before .before .before .if1 .taken), whole, rw (s, t) at (c .before .before .before .before .settings-of .ensures))
+    let s = c .before .before .before .before .before .before .before .byte-at .ensures in
+    let t = c .before .before .before .before .before .before .byte-at2 .ensures in
+    rw (rw (s, t) at (c .before .before .before .if1 .taken), whole, rw (s, t) at (c .before .before .before .before .before .settings-of .ensures), c .before .before .before .before .sets-in .ensures)
 
 returns-2 : tie.Need-returns-2 Inv-loop μ-loop
 unfolding decoded spellsSlots setIn stealIn
 returns-2 c =
-    let s = c .before .before .before .byte-at .ensures in
-    let t = c .before .before .byte-at2 .ensures in
-    rw (rw (s, t) at (c .if1 .left), rw (s, t) at (c .before .settings-of .ensures))
+    let s = c .before .before .before .before .byte-at .ensures in
+    let t = c .before .before .before .byte-at2 .ensures in
+    rw (rw (s, t) at (c .if1 .left), rw (s, t) at (c .before .before .settings-of .ensures), c .before .sets-in .ensures)
 
 pub decode-spec : {M : Type 1} → statement M
-decode-spec = tie.close (tie.spec Inv-loop μ-loop byte-at-requires byte-at-requires-2 settings-of-requires pairs-requires loop-holds mul-slot-spelled array-read-slot-spelled slot-spelled-requires mul-slots array-set-from-slots add-n loop-less loop-again returns returns-2)
+decode-spec = tie.close (tie.spec Inv-loop μ-loop byte-at-requires byte-at-requires-2 settings-of-requires sets-in-requires pairs-requires loop-holds mul-slot-spelled array-read-slot-spelled slot-spelled-requires mul-slots array-set-from-slots add-n loop-less loop-again returns returns-2)

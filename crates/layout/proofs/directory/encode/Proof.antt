@@ -9,8 +9,8 @@ use borrow.Author.Needs.{needs}
 use Rattle.layout.proofs.directory.encode.Statement.{statement}
 use Rattle.layout.proofs.directory.encode.Tie as tie
 
-encode-slots-requires : tie.Need-encode-slots-requires
-encode-slots-requires c κs = search needs
+encode-left-requires : tie.Need-encode-left-requires
+encode-left-requires c κs = search needs
 
 set-of-requires : tie.Need-set-of-requires
 set-of-requires c κs = search needs
@@ -32,14 +32,14 @@ same-length c = search needs
 
 returns : tie.Need-returns
 returns c =
-    rw (c .before .set-of .ensures, c .flag-number .ensures, c .before .before .before .before .before .before .encode-slots .ensures)
-    (put-settings _ _ (omega (arith, c .before .before .before .if1 .taken, c .before .before .before .before .before .before .encode-slots .kept .1 .0)))
+    rw (c .before .set-of .ensures, c .flag-number .ensures, c .before .before .before .before .before .before .encode-left .ensures)
+    (put-settings _ _ (omega (arith, c .before .before .before .if1 .taken, c .before .before .before .before .before .before .encode-left .kept .1 .0)))
 
 same-length-2 : tie.Need-same-length-2
 same-length-2 c = search needs
 
 returns-2 : tie.Need-returns-2
-returns-2 c = c .before .before .before .encode-slots .ensures ∙ put-none _ _ (omega (arith, c .if1 .left, c .before .before .before .encode-slots .kept .1 .0))
+returns-2 c = c .before .before .before .encode-left .ensures ∙ put-none _ _ (omega (arith, c .if1 .left, c .before .before .before .encode-left .kept .1 .0))
 
 pub encode-spec : {M : Type 1} → statement M
-encode-spec = tie.close (tie.spec encode-slots-requires set-of-requires slice-write-out flag-number-requires cast-out slice-write-out-2 same-length returns same-length-2 returns-2)
+encode-spec = tie.close (tie.spec encode-left-requires set-of-requires slice-write-out flag-number-requires cast-out slice-write-out-2 same-length returns same-length-2 returns-2)

@@ -21,7 +21,7 @@ abbrev μ-loop : tie.MeasureT-loop
 
 returns : tie.Need-returns Inv-loop μ-loop
 unfolding slotsPut
-returns c = rw (lt-leb 130 _ (c .if1 .taken))
+returns c = rw (lt-leb 194 _ (c .if1 .taken))
 
 loop-holds : tie.Need-loop-holds Inv-loop μ-loop
 unfolding slotBytes
@@ -79,7 +79,7 @@ returns-2 c =
     let a = c .before .before .before .before .before .args in
     let l = c .before .loop in
     let e : l .n ≡ 64 = omega arith in
-    rw (le-leb 130 _ (c .before .before .before .if1 .left))
+    rw (le-leb 194 _ (c .before .before .before .if1 .left))
     (l .inv .2 ∙ ap (λ (n : ℕ). slotBytes n (ofSlots (a .d .slots)) ++ drop (2 * n) (a .out .now)) e ∙ ap (λ (b : List ℕ). b ++ drop 128 (a .out .now)) (bytes-of (a .d) 64))
 
 pub encode-slots-spec : {M : Type 1} → statement M

@@ -7,7 +7,7 @@ use Rattle.vectors.proofs.caches.directory_of.Statement.{statement}
 use Rattle.vectors.proofs.caches.directory_of.Tie as tie
 
 abbrev Inv-loop : tie.InvT-loop
-Inv-loop v directory₀ k₀ directory k = (k ≤ 21) × (length directory ≡ 130)
+Inv-loop v directory₀ k₀ directory k = (k ≤ 21) × (length directory ≡ 194)
 
 abbrev μ-loop : tie.MeasureT-loop
 μ-loop v directory₀ k₀ directory k = 21 - k

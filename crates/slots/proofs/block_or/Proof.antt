@@ -1,8 +1,8 @@
--- `soundness::block_or` meets its contract.
+-- `slots::block_or` meets its contract.
 use borrow.Author.Needs.{needs}
-use Rattle.soundness.specs.Soundness.{blockOr}
-use Rattle.soundness.proofs.block_or.Statement.{statement}
-use Rattle.soundness.proofs.block_or.Tie as tie
+use Rattle.slots.specs.Directory.{blockOr}
+use Rattle.slots.proofs.block_or.Statement.{statement}
+use Rattle.slots.proofs.block_or.Tie as tie
 
 enum-told : tie.Need-enum-told
 enum-told c = search needs
@@ -10,14 +10,8 @@ enum-told c = search needs
 enum-known-slot : tie.Need-enum-known-slot
 enum-known-slot c = search needs
 
-cast-result : tie.Need-cast-result
-cast-result c = search needs
-
 enum-known-slot-2 : tie.Need-enum-known-slot-2
 enum-known-slot-2 c = search needs
-
-cast-result-2 : tie.Need-cast-result-2
-cast-result-2 c = search needs
 
 returns : tie.Need-returns
 unfolding blockOr
@@ -33,13 +27,4 @@ returns-3 c = rw (c .before .slot2 .given .1)
 
 pub block-or-spec : {M : Type 1} → statement M
 block-or-spec =
-    tie.close
-    (tie.spec
-    enum-told
-    enum-known-slot
-    cast-result
-    enum-known-slot-2
-    cast-result-2
-    returns
-    returns-2
-    returns-3)
+    tie.close (tie.spec enum-told enum-known-slot enum-known-slot-2 returns returns-2 returns-3)

@@ -1,0 +1,2 @@
+pub mod HoldersTold
+pub mod Examples

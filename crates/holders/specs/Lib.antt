@@ -1,0 +1,3 @@
+-- Who holds a block.
+pub mod Holders
+pub mod Examples
