@@ -16,7 +16,7 @@ use Rattle.crossing.specs.Capped.{capped}
 use Rattle.crossing.proofs.CappedLaws.{caps}
 use Rattle.layout.specs.Directory.{decoded}
 use Rattle.holders.specs.declared.HoldersAnswer.{HoldersAnswer}
-use Rattle.holders.specs.Holders.{holdersRefusal, holdersRefused, holdersAnswer}
+use Rattle.holders.specs.Holders.{holdersRefusal, holdersAnswer}
 use Rattle.capi_holders.specs.Holders.{asked, holdersReturned, setLeft, countLeft, Says}
 
 -- the number in a byte passes the test as the number itself does

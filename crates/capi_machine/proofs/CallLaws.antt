@@ -20,7 +20,7 @@ use Rattle.coherence.specs.Demand3.{Answered}
 use Rattle.coherence.proofs.Counts.{answers-orders}
 use Rattle.coherence.proofs.Shapes.{answer-settings}
 use Rattle.layout.specs.Directory.{directorySize, decoded, frontBytes, encoded, slotBytes, settingsBytes, leftPut}
-use Rattle.layout.specs.Answer.{answerNumbers, answerPut}
+use Rattle.answer_layout.specs.Answer.{answerNumbers, answerPut}
 use Rattle.crossing.proofs.CappedLaws.{caps}
 use Rattle.capi_machine.specs.Call.{Narrows, returned, directoryLeft, memoryLeft, cacheLeft, answerLeft, RefusedLeaves}
 use Rattle.layout.proofs.Inverse.{inverse, length-encoded, settings-kept, sets-decoded}

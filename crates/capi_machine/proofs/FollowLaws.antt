@@ -16,9 +16,9 @@ use Rattle.coherence.specs.declared.Settings.{Settings}
 use Rattle.coherence.proofs.Counts.{refused}
 use Rattle.coherence.proofs.Shapes.{answer-slots, answer-settings, answer-sets}
 use Rattle.layout.specs.Directory.{decoded}
-use Rattle.layout.specs.Answer.{answerNumbers}
+use Rattle.answer_layout.specs.Answer.{answerNumbers}
 use Rattle.layout.proofs.Inverse.{inverse, length-decoded, boards-decoded, sets-decoded}
-use Rattle.layout.proofs.AnswerLaws.{length-answer}
+use Rattle.answer_layout.proofs.AnswerLaws.{length-answer}
 use Rattle.capi_machine.specs.Call.{returned, directoryLeft, memoryLeft, cacheLeft, answerLeft}
 use Rattle.capi_machine.specs.Follow.{Lent, called, calledAll, Heard, heard, heardAll, told, Follows, FollowsOn}
 

@@ -12,7 +12,7 @@ use Rattle.coherence.specs.Refusal.{isUnit, isBlock}
 use Rattle.coherence.specs.Calls.{refusal, answer, memoryAfter, cacheAfter}
 use Rattle.crossing.specs.Capped.{capped}
 use Rattle.layout.specs.Directory.{decoded, encoded}
-use Rattle.layout.specs.Answer.{answerSize, answerNumbers}
+use Rattle.answer_layout.specs.Answer.{answerSize, answerNumbers}
 
 -- a unit's or a block's number in a byte: 255 is no unit and no block, and is refused as those above it would be
 abbrev pub narrowed : ℕ → ℕ

@@ -11,7 +11,7 @@ use Rattle.coherence.specs.declared.Call.{Call}
 use Rattle.coherence.specs.declared.Answer.{Answer}
 use Rattle.coherence.specs.Calls.{answers, afterAll}
 use Rattle.layout.specs.Directory.{decoded}
-use Rattle.layout.specs.Answer.{answerSize, answerNumbers}
+use Rattle.answer_layout.specs.Answer.{answerSize, answerNumbers}
 use Rattle.capi_machine.specs.Call.{returned, directoryLeft, memoryLeft, cacheLeft, answerLeft}
 
 -- what a caller lends

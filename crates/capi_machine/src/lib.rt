@@ -1,9 +1,9 @@
 // The cache machine's calls for programs in other languages: `include/trainer.h` declares these functions. Slices cross as pointer and length, all else as
 // numbers. Each function is total, and a refused call writes nothing but what its contract says.
+use answer_layout::put_answer;
 use crossing::byte;
 use layout::decode;
 use layout::encode_left;
-use layout::put_answer;
 use order::NO_ROOM;
 use slots::owner;
 ghost use mathlib.Core.Path.{_≡_};

@@ -16,7 +16,7 @@ use Rattle.coherence.specs.PlainMemory.{plainAccepts, plainPut, plainAft
 use Rattle.coherence.specs.Snapshot.{replaced, takenBy, takenAfter, takenAfterAll}
 use Rattle.coherence.specs.Demand3.{ordersIn, ordersGiven, isLoad, isStore, acceptedOf, loads, stores, perStore}
 use Rattle.coherence.specs.AccessRows.{mixedSettings, stealing}
-use Rattle.coherence.specs.Examples.{zeros, drillCalls, valueAndOrders, conflict, mixedCalls, stealCalls, edgeCalls, peekOf, peekAfter, takenCold, Examples}
+use Rattle.coherence.specs.Examples.{zeros, drillCalls, valueAndOrders, conflict, mixedCalls, stealCalls, edgeCalls, ordersAndValue, peekOf, wordsOf, takenCold, Examples}
 
 -- the orders of all answers, from what is shown of each
 total : List (ℕ × ℕ) → ℕ
@@ -36,7 +36,7 @@ unfolding
     writeThrough storeThrough store flush isThrough through drillSettings mixedSettings mixedCalls stealing stealCalls
     firstRefusal sized isUnit isAddress isBlock sizeTest directoryTest unitTest targetTest callRefusal startRefusal peekRefusal
     unitOf isTarget refusal act loaded settle after valueOf packed answer memoryAfter cacheAfter answers afterAll answersCold afterCold
-    fromCache newestBlock newest peeked plainPut plainAfter replaced takenBy takenAfter takenAfterAll peekOf peekAfter takenCold
+    fromCache newestBlock newest peeked plainPut plainAfter replaced takenBy takenAfter takenAfterAll ordersAndValue peekOf wordsOf takenCold
     total plainAccepts ordersIn ordersGiven isLoad isStore acceptedOf loads stores perStore zeros drillCalls valueAndOrders conflict edgeCalls
 examples =
     record {
@@ -46,9 +46,9 @@ examples =
       p11 =
           let n : ordersGiven (answersCold drillSettings zeros (take 2 drillCalls)) ≡ 4 = refl in
           record { exactly = n; orders = n; loads = refl; stores = refl };
-      fourOrders = record { orders = refl; value = refl };
-      storedBytes = record { cache = refl; memory = refl; flushed = refl; peeked = refl; peekedLater = refl; under = refl; taken = refl };
-      invalidations = record { lines = refl; flush = refl };
+      fourOrders = record { answer = refl };
+      storedBytes = record { stored = refl; flushed = refl; under = refl; taken = refl };
+      invalidations = record { lines = refl };
       directories =
           record { bothShared = refl; modifiedAndShared = refl; otherBlock = refl; wrongSlot = refl; lastBlock = refl; noBlock = refl; numbers = refl };
       mixedBoards = record { lines = refl; modified = refl; shared = refl; other = refl };

@@ -7,13 +7,14 @@ use mathlib.Core.Bool.{true, false}
 use mathlib.Core.List.{List, [], _∷_, map}
 use lib.ListN.{length, take, drop, replicate}
 use Rattle.order.specs.declared.Command.the-variants.{Read, Copyback}
+use Rattle.order.specs.declared.Order.{Order}
 use Rattle.coherence.specs.declared.Call.{Call}
 use Rattle.coherence.specs.declared.Call.the-variants.{Load, Store, Flush}
 use Rattle.coherence.specs.declared.Answer.{Answer}
 use Rattle.coherence.specs.declared.Slot.the-variants.{Invalid, Shared, Modified}
 use Rattle.coherence.specs.Bytes.{storeSize, blockAt}
 use Rattle.coherence.specs.Settings.{drillSettings}
-use Rattle.coherence.specs.Slots.{setSlot, stateNumber, holdersOf, kept, sound, coldDirectory}
+use Rattle.coherence.specs.Slots.{setSlot, stateNumber, kept, sound, coldDirectory}
 use Rattle.coherence.specs.Access.{Run}
 use Rattle.coherence.specs.Refusal.{startRefusal, peekRefusal}
 use Rattle.coherence.specs.Calls.{answersCold, afterCold}
@@ -51,47 +52,48 @@ pub record P11 : Type 0 where
 unfoldable pub conflict : List Call
 conflict = Store 0 72 9 ∷ Store 1 584 10 ∷ Load 1 72 ∷ []
 
-pub record FourOrders : Type 0 where
-  pub orders :
-      map ordersIn (drop 2 (answersCold drillSettings zeros conflict))
-      ≡ (record { unit = 1; command = Copyback; block = 18; retried = false }
-      ∷ record { unit = 1; command = Read; block = 2; retried = true }
-      ∷ record { unit = 0; command = Copyback; block = 2; retried = false }
-      ∷ record { unit = 1; command = Read; block = 2; retried = false }
-      ∷ [])
-      ∷ []
-  pub value : map (λ (r : Answer). r .value) (drop 2 (answersCold drillSettings zeros conflict)) ≡ 9 ∷ []
+-- an answer's orders and its value
+unfoldable pub ordersAndValue : Answer → List Order × ℕ
+ordersAndValue r = (ordersIn r, r .value)
 
--- what peek shows of a machine, and after a list of calls; and block b when it was last taken
+pub record FourOrders : Type 0 where
+  pub answer :
+      map ordersAndValue (drop 2 (answersCold drillSettings zeros conflict))
+      ≡ (
+        record { unit = 1; command = Copyback; block = 18; retried = false }
+            ∷ record { unit = 1; command = Read; block = 2; retried = true }
+            ∷ record { unit = 0; command = Copyback; block = 2; retried = false }
+            ∷ record { unit = 1; command = Read; block = 2; retried = false }
+            ∷ [],
+        9,
+      )
+      ∷ []
+
+-- what peek shows of a machine, and block b when it was last taken
 unfoldable pub peekOf : Run → ℕ → List ℕ
 peekOf w b = peeked (w .directory) (w .memory) (w .cache) b
-
-unfoldable pub peekAfter : List Call → ℕ → List ℕ
-peekAfter cs b = peekOf (afterCold drillSettings zeros cs) b
 
 unfoldable pub takenCold : List Call → ℕ → List ℕ
 takenCold cs b = takenAfterAll (coldDirectory drillSettings) zeros (blockAt zeros) cs (answersCold drillSettings zeros cs) b
 
--- "Words are 4 bytes, most significant first": unit 2 stores 300 at 72, which is byte 8 of its slot 2, and flushes block 2
+-- the word at 72 in unit 2's slot 2, whose byte 8 it begins at; in memory; and as peek shows it
+unfoldable pub wordsOf : Run → List ℕ × List ℕ × List ℕ
+wordsOf w = (take 4 (drop 1096 (w .cache)), take 4 (drop 72 (w .memory)), take 4 (drop 8 (peekOf w 2)))
+
+-- "Words are 4 bytes, most significant first": unit 2 stores 300 at 72, and flushes block 2
 pub record StoredBytes : Type 0 where
-  pub cache : take 4 (drop 1096 (afterCold drillSettings zeros (Store 2 72 300 ∷ []) .cache)) ≡ 0 ∷ 0 ∷ 1 ∷ 44 ∷ []
-  pub memory : take 4 (drop 72 (afterCold drillSettings zeros (Store 2 72 300 ∷ []) .memory)) ≡ 0 ∷ 0 ∷ 0 ∷ 0 ∷ []
-  pub flushed : take 4 (drop 72 (afterCold drillSettings zeros (Store 2 72 300 ∷ Flush 2 2 ∷ []) .memory)) ≡ 0 ∷ 0 ∷ 1 ∷ 44 ∷ []
-  -- peek before the flush, and after it
-  pub peeked : take 4 (drop 8 (peekAfter (Store 2 72 300 ∷ []) 2)) ≡ 0 ∷ 0 ∷ 1 ∷ 44 ∷ []
-  pub peekedLater : take 4 (drop 8 (peekAfter (Store 2 72 300 ∷ Flush 2 2 ∷ []) 2)) ≡ 0 ∷ 0 ∷ 1 ∷ 44 ∷ []
+  pub stored : wordsOf (afterCold drillSettings zeros (Store 2 72 300 ∷ [])) ≡ (0 ∷ 0 ∷ 1 ∷ 44 ∷ [], 0 ∷ 0 ∷ 0 ∷ 0 ∷ [], 0 ∷ 0 ∷ 1 ∷ 44 ∷ [])
+  pub flushed :
+      wordsOf (afterCold drillSettings zeros (Store 2 72 300 ∷ Flush 2 2 ∷ [])) ≡ (0 ∷ 0 ∷ 1 ∷ 44 ∷ [], 0 ∷ 0 ∷ 1 ∷ 44 ∷ [], 0 ∷ 0 ∷ 1 ∷ 44 ∷ [])
   -- memory under the block that unit 2 took again has what was flushed
   pub under : take 4 (drop 72 (afterCold drillSettings zeros (Store 2 72 300 ∷ Flush 2 2 ∷ Store 2 72 9 ∷ []) .memory)) ≡ 0 ∷ 0 ∷ 1 ∷ 44 ∷ []
   pub taken : take 4 (drop 8 (takenCold (Store 2 72 300 ∷ Flush 2 2 ∷ Store 2 72 9 ∷ []) 2)) ≡ 0 ∷ 0 ∷ 1 ∷ 44 ∷ []
 
--- "other units holding b become I": all four units read a block, unit 0 stores into it, unit 3 after it, and the others read again
+-- "other units holding b become I": three units read a block, unit 0 stores into it, and unit 3 reads again
 pub record Invalidations : Type 0 where
   pub lines :
-      map valueAndOrders (answersCold drillSettings zeros
-      (Load 0 72 ∷ Load 1 72 ∷ Load 2 72 ∷ Load 3 72 ∷ Store 0 72 9 ∷ Load 1 72 ∷ Load 2 72 ∷ Load 3 72 ∷ Store 3 72 10 ∷ Load 0 72 ∷ []))
-      ≡ (0, 1) ∷ (0, 1) ∷ (0, 1) ∷ (0, 1) ∷ (0, 1) ∷ (9, 3) ∷ (9, 1) ∷ (9, 1) ∷ (0, 1) ∷ (10, 3) ∷ []
-  -- "a held slot becomes I": a flushed SU block is read again
-  pub flush : map valueAndOrders (answersCold drillSettings zeros (Load 0 72 ∷ Flush 0 2 ∷ Load 0 72 ∷ [])) ≡ (0, 1) ∷ (0, 0) ∷ (0, 1) ∷ []
+      map valueAndOrders (answersCold drillSettings zeros (Load 0 72 ∷ Load 1 72 ∷ Load 3 72 ∷ Store 0 72 9 ∷ Load 3 72 ∷ []))
+      ≡ (0, 1) ∷ (0, 1) ∷ (0, 1) ∷ (0, 1) ∷ (9, 3) ∷ []
 
 -- the rules of the directory: slots 3 and 51 are slot 3 of units 0 and 3
 pub record Directories : Type 0 where

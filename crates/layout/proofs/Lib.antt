@@ -1,4 +1,3 @@
 pub mod DirectoryLaws
-pub mod AnswerLaws
 pub mod Inverse
 pub mod Examples

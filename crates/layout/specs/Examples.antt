@@ -1,18 +1,14 @@
--- The bytes of a directory and the numbers of an answer as include/trainer.h tells them, computed; all fields are different.
+-- The bytes of a directory as include/trainer.h tells them, computed; all fields are different.
 use mathlib.Core.Path.{_≡_}
-use mathlib.Core.Bool.{true, false}
+use mathlib.Core.Bool.{true}
 use mathlib.Core.List.{[], _∷_, _++_}
 use lib.ListN.{replicate}
-use Rattle.order.specs.declared.Command.the-variants.{ModifiedRead, Copyback}
 use Rattle.coherence.specs.declared.Slot.the-variants.{Shared, Modified}
 use Rattle.coherence.specs.declared.Settings.{Settings}
 use Rattle.coherence.specs.declared.Directory.{Directory}
 use Rattle.coherence.specs.Settings.{copybackBoard, throughBoard}
-use Rattle.coherence.specs.declared.Answer.{Answer}
 use Rattle.coherence.specs.Slots.{setSlot, kept, coldDirectory}
-use Rattle.coherence.specs.Calls.{packed}
 use Rattle.layout.specs.Directory.{encoded, leftPut, directoryPut, slotSpelled, noSlot}
-use Rattle.layout.specs.Answer.{answerNumbers, answerPut}
 
 -- unit 0 and unit 2 have write-through boards, and steal is on
 unfoldable pub chosen : Settings
@@ -21,17 +17,6 @@ chosen = record { boards = throughBoard ∷ copybackBoard ∷ throughBoard ∷ c
 -- slot 1 of unit 0 is SU with block 33, slot 15 of unit 3 EM with block 47, and these are who holds them
 unfoldable pub mixed : Directory
 mixed = kept (setSlot (setSlot (coldDirectory chosen) 1 (Shared 33)) 63 (Modified 47))
-
-unfoldable pub twoOrders : Answer
-twoOrders =
-    record {
-      refusal = 0;
-      value = 77;
-      orders =
-          packed
-          (record { unit = 1; command = Copyback; block = 33; retried = false } ∷ record { unit = 2; command = ModifiedRead; block = 47; retried = true } ∷ []);
-      directory = coldDirectory chosen;
-    }
 
 pub record Examples : Type 0 where
   -- "slot s of unit u at 2 (16 u + s): its state, then its block (0 if it is invalid)"
@@ -42,8 +27,6 @@ pub record Examples : Type 0 where
       ≡ (0 ∷ 0 ∷ 1 ∷ 33 ∷ []) ++ replicate 122 0 ++ (2 ∷ 47 ∷ 5 ∷ 1 ∷ []) ++ replicate 33 0 ++ (1 ∷ replicate 13 0) ++ (8 ∷ replicate 16 0)
   -- what is no slot: an invalid slot with a block, a state above 2
   pub noSlots : (slotSpelled 0 5 ≡ noSlot) × (slotSpelled 3 0 ≡ noSlot)
-  -- "the loaded value, how many orders were given, and four orders: unit, command, block, retried"
-  pub answer : answerNumbers twoOrders ≡ 77 ∷ 2 ∷ 1 ∷ 3 ∷ 33 ∷ 0 ∷ 2 ∷ 1 ∷ 47 ∷ 1 ∷ replicate 8 0
   -- what lies behind stays, and so does a space that is too small
   pub directoryBehind : directoryPut mixed (replicate 196 9) ≡ encoded mixed ++ (9 ∷ 9 ∷ [])
   pub directoryShort : directoryPut mixed (replicate 193 9) ≡ replicate 193 9
@@ -52,5 +35,3 @@ pub record Examples : Type 0 where
       leftPut mixed (replicate 195 9)
       ≡ (0 ∷ 0 ∷ 1 ∷ 33 ∷ []) ++ replicate 122 0 ++ (2 ∷ 47 ∷ 9 ∷ 9 ∷ []) ++ replicate 33 0 ++ (1 ∷ replicate 13 0) ++ (8 ∷ replicate 16 0) ++ (9 ∷ [])
   pub leftShort : leftPut mixed (replicate 193 9) ≡ replicate 193 9
-  pub answerBehind : answerPut twoOrders (replicate 19 9) ≡ answerNumbers twoOrders ++ (9 ∷ [])
-  pub answerShort : answerPut twoOrders (replicate 17 9) ≡ replicate 17 9

@@ -1,4 +1,3 @@
--- The directory and a call's answer as a caller in another language lends them.
+-- The directory as a caller in another language lends it.
 pub mod Directory
-pub mod Answer
 pub mod Examples

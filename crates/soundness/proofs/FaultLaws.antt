@@ -16,8 +16,9 @@ use Rattle.coherence.proofs.Cases.{four, eq-or-ne, true-or-false}
 use Rattle.coherence.proofs.SlotLaws.{holds-is, shared-holds, modified-holds}
 use Rattle.coherence.proofs.Rules.{tests-rules}
 use Rattle.slots.specs.Directory.{blockOr}
-use Rattle.soundness.specs.Soundness.{noBlock, SlotBySlot, Ranks, misplacedIn, conflictOf, faultsOf, faultsAt, faultless}
-use Rattle.soundness.proofs.Turns.{four-told}
+use Rattle.set_test.specs.Sets.{noBlock, SlotBySlot}
+use Rattle.soundness.specs.Soundness.{Ranks, misplacedIn, conflictOf, faultsOf, faultsAt, faultless}
+use Rattle.set_test.proofs.Turns.{four-told}
 
 -- ---- the faults by the slots themselves
 

@@ -11,8 +11,9 @@ use Rattle.coherence.specs.Settings.{through}
 use Rattle.coherence.specs.Slots.{slotOf, stateNumber, soundKinds, Kinds}
 use Rattle.coherence.proofs.Below.{below-at, all-below}
 use Rattle.coherence.proofs.Rules.{tests-rules}
-use Rattle.soundness.specs.Soundness.{SlotBySlot, notModified, noneModified, keepsKind, kindsKept}
-use Rattle.soundness.proofs.Turns.{slot-told}
+use Rattle.set_test.specs.Sets.{SlotBySlot}
+use Rattle.soundness.specs.Soundness.{notModified, noneModified, keepsKind, kindsKept}
+use Rattle.set_test.proofs.Turns.{slot-told}
 
 -- ---- one slot
 one-modified : (x : Slot) (b : ℕ) → notModified (stateNumber x) ≡ true → x ≡ Modified b → ⊥

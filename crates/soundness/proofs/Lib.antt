@@ -2,4 +2,3 @@
 mod Turns
 mod FaultLaws
 mod KindLaws
-mod SetLaws

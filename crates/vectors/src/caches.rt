@@ -94,7 +94,7 @@ fn access(
     }
     let left = given.directory;
     layout::encode(left, directory);
-    layout::put_answer(given, answer);
+    answer_layout::put_answer(given, answer);
     0
 }
 

@@ -5,7 +5,7 @@ use Rattle.coherence.specs.declared.Directory.{Directory}
 use Rattle.coherence.specs.Slots.{soundSlots, soundKinds, soundSets, sound}
 use Rattle.soundness.proofs.FaultLaws.{ranks-low, faultless-is}
 use Rattle.soundness.proofs.KindLaws.{kinds-kept}
-use Rattle.soundness.proofs.SetLaws.{sets-are}
+use Rattle.set_test.proofs.SetLaws.{sets-are}
 use borrow.Author.Needs.{needs}
 use Rattle.soundness.proofs.is_sound.Statement.{statement}
 use Rattle.soundness.proofs.is_sound.Tie as tie

@@ -3,7 +3,7 @@ use Prim.Native.Nat.{_≤_, _-_}
 use mathlib.Core.Path.{_≡_, refl}
 use native.Mathlib.Omega.{arith}
 use Rattle.soundness.specs.Soundness.{notModified, noneModified}
-use Rattle.soundness.proofs.Turns.{none-yet, one-more}
+use Rattle.set_test.proofs.Turns.{none-yet, one-more}
 use borrow.Author.Needs.{needs}
 use Rattle.soundness.proofs.none_modified.Statement.{statement}
 use Rattle.soundness.proofs.none_modified.Tie as tie

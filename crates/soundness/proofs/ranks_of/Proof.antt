@@ -4,7 +4,7 @@ use mathlib.Core.Path.{_≡_, refl}
 use native.Mathlib.Omega.{arith}
 use lib.ListN.{length, length-set}
 use Rattle.coherence.specs.Slots.{stateNumber}
-use Rattle.soundness.specs.Soundness.{SlotBySlot}
+use Rattle.set_test.specs.Sets.{SlotBySlot}
 use Rattle.soundness.proofs.Turns.{no-slot-yet, slot-more}
 use borrow.Author.Needs.{needs}
 use Rattle.soundness.proofs.ranks_of.Statement.{statement}

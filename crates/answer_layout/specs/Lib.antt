@@ -1,0 +1,3 @@
+-- A call's answer as a caller in another language lends space for it.
+pub mod Answer
+pub mod Examples
