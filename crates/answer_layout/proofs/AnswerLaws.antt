@@ -1,6 +1,5 @@
 -- An answer's numbers, one order at a time.
 use mathlib.Core.Path.{_≡_, refl, sym, ap, _∙_}
-use mathlib.Core.Bool.{Bool, true, false}
 use mathlib.Core.List.{List, [], _∷_, _++_, append-assoc}
 use Prim.Native.Nat.{ℕ, zero, suc, _+_, _*_, _≤_}
 use native.Mathlib.Omega.{arith}
@@ -8,16 +7,10 @@ use native.Mathlib.Numerals.{add-one}
 use lib.ListN.{length, getD, drop, length-append}
 use lib.Seq.{sets}
 use Rattle.order.specs.declared.Order.{Order}
-use Rattle.order.specs.Flag.{flag}
 use Rattle.coherence.specs.declared.Answer.{Answer}
 use Rattle.coherence.specs.Calls.{noOrder}
 use Rattle.answer_layout.specs.Answer.{orderNumbers, ordersNumbers, answerNumbers}
 use Rattle.crossing.proofs.Spaces.{put-behind}
-
-pub flag-small : (b : Bool) → flag b ≤ 1
-unfolding flag
-flag-small true = omega arith
-flag-small false = omega arith
 
 length-order : (o : Order) → length (orderNumbers o) ≡ 4
 unfolding orderNumbers

@@ -50,7 +50,7 @@ examples =
       storedBytes = record { stored = refl; flushed = refl; under = refl; taken = refl };
       invalidations = record { lines = refl };
       directories =
-          record { bothShared = refl; modifiedAndShared = refl; otherBlock = refl; wrongSlot = refl; lastBlock = refl; noBlock = refl; numbers = refl };
+          record { bothShared = refl; modifiedAndShared = refl; otherBlock = refl; wrongSlot = refl; lastBlock = refl; noBlock = refl; setDiffers = refl; numbers = refl };
       mixedBoards = record { lines = refl; modified = refl; shared = refl; other = refl };
       steals = record { lines = refl; bills = refl; exactly = refl; memoryWrite = refl };
       boundaries = record { calls = refl; plain = refl; peeks = refl; starts = refl };

@@ -103,6 +103,8 @@ pub record Directories : Type 0 where
   pub wrongSlot : sound (kept (setSlot (coldDirectory drillSettings) 0 (Shared 8))) ≡ false
   pub lastBlock : sound (kept (setSlot (coldDirectory drillSettings) 63 (Modified 63))) ≡ true
   pub noBlock : sound (kept (setSlot (coldDirectory drillSettings) 0 (Shared 64))) ≡ false
+  -- T-08: a slot whose set was not kept
+  pub setDiffers : sound (setSlot (coldDirectory drillSettings) 3 (Shared 3)) ≡ false
   pub numbers : map stateNumber (Invalid ∷ Shared 9 ∷ Modified 5 ∷ []) ≡ 0 ∷ 1 ∷ 2 ∷ []
 
 -- T-05: units 1 and 3 have write-through boards, the others have copyback boards.

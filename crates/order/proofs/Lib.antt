@@ -1,3 +1,4 @@
--- The laws of commands and of refusals.
+-- The laws of commands, of flags and of refusals.
 pub mod CommandLaws
+pub mod FlagLaws
 pub mod RefusalLaws

@@ -6,7 +6,7 @@ use native.Mathlib.Omega.{arith}
 use native.Mathlib.Numerals.{add-one}
 use lib.ListN.{length-set}
 use Rattle.answer_layout.specs.Answer.{orderNumbers}
-use Rattle.answer_layout.proofs.AnswerLaws.{flag-small}
+use Rattle.order.proofs.FlagLaws.{flag-small}
 use Rattle.answer_layout.proofs.put_order.Statement.{statement}
 use Rattle.answer_layout.proofs.put_order.Tie as tie
 

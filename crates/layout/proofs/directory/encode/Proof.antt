@@ -3,7 +3,7 @@ use Prim.Native.Nat.{_≤_}
 use mathlib.Core.Path.{_∙_}
 use native.Mathlib.Omega.{arith}
 use lib.ListN.{length-set}
-use Rattle.answer_layout.proofs.AnswerLaws.{flag-small}
+use Rattle.order.proofs.FlagLaws.{flag-small}
 use Rattle.layout.proofs.DirectoryLaws.{put-settings, put-none}
 use borrow.Author.Needs.{needs}
 use Rattle.layout.proofs.directory.encode.Statement.{statement}
