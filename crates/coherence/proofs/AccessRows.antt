@@ -1,8 +1,9 @@
 -- The rows, computed from the definitions.
 use mathlib.Core.Path.{refl, _∙_}
+use Rattle.order.specs.Flag.{flag}
 use Rattle.coherence.specs.Bytes.{blockAt, putBlock, wordAt, putWord}
 use Rattle.coherence.specs.Settings.{isThrough, through, drillSettings}
-use Rattle.coherence.specs.Slots.{place, slotAt, setSlot, holds, modified, bit, unitsWith, holdersOf, heldBy, table, kept, ownerOf, allBelow, fits, alone, slotRule, kindRule, soundSlots, soundKinds, soundSets, sound, coldDirectory}
+use Rattle.coherence.specs.Slots.{place, slotAt, setSlot, holds, modified, unitsWith, holdersOf, heldBy, table, kept, ownerOf, allBelow, fits, alone, slotRule, kindRule, soundSlots, soundKinds, soundSets, sound, coldDirectory}
 use Rattle.coherence.specs.Access.{ready, give, mark, writeBack, copyback, emptied, empty, yield, reads, stolen, asked, ask, fill, fetch, eachUnit, expel, claim, cachePlace, write, load, own, writeThrough, storeThrough, store, flush}
 use Rattle.order.specs.Refusal.{firstRefusal}
 use Rattle.coherence.specs.Refusal.{sized, isUnit, isAddress, isBlock, sizeTest, directoryTest, unitTest, targetTest, callRefusal, startRefusal, peekRefusal}
@@ -22,7 +23,7 @@ rows-say d c n os e m k r =
 
 pub access-rows : AccessRows
 unfolding
-    blockAt putBlock wordAt putWord place slotAt setSlot holds modified bit unitsWith holdersOf heldBy table kept ownerOf allBelow
+    blockAt putBlock wordAt putWord place slotAt setSlot holds modified flag unitsWith holdersOf heldBy table kept ownerOf allBelow
     fits alone slotRule kindRule soundSlots soundKinds soundSets sound coldDirectory
     ready give mark writeBack copyback emptied empty yield reads stolen asked ask fill fetch eachUnit expel claim cachePlace write load own
     writeThrough storeThrough store flush isThrough through drillSettings

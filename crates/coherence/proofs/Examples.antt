@@ -3,10 +3,11 @@ use Prim.Native.Nat.{ℕ, _+_}
 use mathlib.Core.Path.{_≡_, refl, ap, _∙_}
 use mathlib.Core.List.{List, [], _∷_, map}
 use lib.ListN.{length, take}
+use Rattle.order.specs.Flag.{flag}
 use Rattle.coherence.specs.declared.Answer.{Answer}
 use Rattle.coherence.specs.Bytes.{blockAt, putBlock, wordAt, putWord}
 use Rattle.coherence.specs.Settings.{isThrough, through, drillSettings}
-use Rattle.coherence.specs.Slots.{place, slotAt, setSlot, stateNumber, holds, modified, bit, unitsWith, holdersOf, heldBy, table, kept, ownerOf, allBelow, fits, alone, slotRule, kindRule, soundSlots, soundKinds, soundSets, sound, coldDirectory}
+use Rattle.coherence.specs.Slots.{place, slotAt, setSlot, stateNumber, holds, modified, unitsWith, holdersOf, heldBy, table, kept, ownerOf, allBelow, fits, alone, slotRule, kindRule, soundSlots, soundKinds, soundSets, sound, coldDirectory}
 use Rattle.coherence.specs.Access.{ready, give, mark, writeBack, copyback, emptied, empty, yield, reads, stolen, asked, ask, fill, fetch, eachUnit, expel, claim, cachePlace, write, load, own, writeThrough, storeThrough, store, flush}
 use Rattle.order.specs.Refusal.{firstRefusal}
 use Rattle.coherence.specs.Refusal.{sized, isUnit, isAddress, isBlock, sizeTest, directoryTest, unitTest, targetTest, callRefusal, startRefusal, peekRefusal}
@@ -30,7 +31,7 @@ orders-of (r ∷ rs) = ap (λ (n : ℕ). length (ordersIn r) + n) (orders-of rs)
 
 pub examples : Examples
 unfolding
-    blockAt putBlock wordAt putWord place slotAt setSlot stateNumber holds modified bit unitsWith holdersOf heldBy table kept ownerOf allBelow
+    blockAt putBlock wordAt putWord place slotAt setSlot stateNumber holds modified flag unitsWith holdersOf heldBy table kept ownerOf allBelow
     fits alone slotRule kindRule soundSlots soundKinds soundSets sound coldDirectory
     ready give mark writeBack copyback emptied empty yield reads stolen asked ask fill fetch eachUnit expel claim cachePlace write load own
     writeThrough storeThrough store flush isThrough through drillSettings mixedSettings mixedCalls stealing stealCalls

@@ -7,9 +7,10 @@ use native.Mathlib.Omega.{arith}
 use native.Mathlib.Nat.{not-suc-le-zero, le-of-suc-le-suc, eq-or-lt-of-le}
 use lib.ListN.{length, getD, replicate, length-append, length-replicate, List·getD-append}
 use lib.Seq.{getD-append-add, ext-getD}
+use Rattle.order.specs.Flag.{flag}
 use Rattle.coherence.specs.declared.Settings.{Settings}
 use Rattle.coherence.specs.declared.Directory.{Directory}
-use Rattle.coherence.specs.Slots.{place, slotAt, bit, unitsWith, holdersOf, heldBy, table, kept, coldDirectory}
+use Rattle.coherence.specs.Slots.{place, slotAt, unitsWith, holdersOf, heldBy, table, kept, coldDirectory}
 use Rattle.coherence.proofs.SlotLaws.{slot-cold, holds-invalid}
 
 -- the sets kept are those of the slots
@@ -60,7 +61,7 @@ held-cold g b = zeros 64 b
     zeros (suc n) (suc i) = zeros n i
 
 pub sets-cold : (g : Settings) → Sets (coldDirectory g)
-unfolding coldDirectory holdersOf unitsWith bit
+unfolding coldDirectory holdersOf unitsWith flag
 sets-cold g =
     record {
       number = length-replicate {A = ℕ} 64 0;

@@ -7,6 +7,7 @@ use mathlib.Core.Bool.{Bool, true, false, cond, not, _&&_, _||_}
 use mathlib.Core.List.{List, [], _∷_, _++_}
 use lib.ListN.{getD, set, replicate}
 use lib.Dec.{leb, eqb}
+use Rattle.order.specs.Flag.{flag}
 use Rattle.coherence.specs.declared.Slot.{Slot}
 use Rattle.coherence.specs.declared.Slot.the-variants.{Invalid, Shared, Modified}
 use Rattle.coherence.specs.declared.Entry.{Entry}
@@ -57,11 +58,8 @@ modified (Shared c) b = false
 modified (Modified c) b = eqb c b
 
 -- the set of the units with f: "unit 0 having weight 1, unit 3 weight 8"
-unfoldable pub bit : Bool → ℕ
-bit t = cond t 1 0
-
 unfoldable pub unitsWith : (ℕ → Bool) → ℕ
-unitsWith f = bit (f 0) + 2 * bit (f 1) + 4 * bit (f 2) + 8 * bit (f 3)
+unitsWith f = flag (f 0) + 2 * flag (f 1) + 4 * flag (f 2) + 8 * flag (f 3)
 
 -- the set of units holding block b, by the slots
 unfoldable pub holdersOf : Directory → ℕ → ℕ

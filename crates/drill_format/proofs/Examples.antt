@@ -17,7 +17,7 @@ use Rattle.tape_format.specs.Record.{load as loadLayout, store as storeLayout, 
 use Rattle.reading.specs.Reading.{andMore, readOn, readFrom, readAll, accessOf, andCalls, callsOf}
 use Rattle.coherence.specs.Bytes.{blockAt, putBlock, wordAt, putWord}
 use Rattle.coherence.specs.Settings.{isThrough, through, drillSettings}
-use Rattle.coherence.specs.Slots.{place, slotAt, setSlot, holds, modified, bit, unitsWith, holdersOf, heldBy, table, kept, ownerOf, allBelow, fits, alone, slotRule, kindRule, soundSlots, soundKinds, soundSets, sound, coldDirectory}
+use Rattle.coherence.specs.Slots.{place, slotAt, setSlot, holds, modified, unitsWith, holdersOf, heldBy, table, kept, ownerOf, allBelow, fits, alone, slotRule, kindRule, soundSlots, soundKinds, soundSets, sound, coldDirectory}
 use Rattle.coherence.specs.Access.{ready, give, mark, writeBack, copyback, emptied, empty, yield, reads, stolen, asked, ask, fill, fetch, eachUnit, expel, claim, cachePlace, write, load, own, store, flush}
 use Rattle.coherence.specs.Refusal.{sized, isUnit, isAddress, isBlock, sizeTest, directoryTest, unitTest, targetTest, callRefusal, startRefusal}
 use Rattle.coherence.specs.Calls.{unitOf, isTarget, refusal, act, loaded, settle, after, valueOf, packed, answer, memoryAfter, cacheAfter, startAnswer, cacheStarted, answers, answersCold}
@@ -39,7 +39,7 @@ unfolding
     Option·elim commandNumber commandOf flag firstRefusal ascii digitsIn decimal limitOf carried readGroups refusing numberAt
     retriedMost allowed ruled fieldAt loadLayout storeLayout flushLayout order answerLayout register loadedLayout stamp layoutOf andThen andCommand fieldsAt kindAt recordAt
     andMore readOn readFrom readAll accessOf andCalls callsOf
-    blockAt putBlock wordAt putWord place slotAt setSlot holds modified bit unitsWith holdersOf heldBy table kept ownerOf allBelow
+    blockAt putBlock wordAt putWord place slotAt setSlot holds modified unitsWith holdersOf heldBy table kept ownerOf allBelow
     fits alone slotRule kindRule soundSlots soundKinds soundSets sound coldDirectory
     isThrough through drillSettings
     ready give mark writeBack copyback emptied empty yield reads stolen asked ask fill fetch eachUnit expel claim cachePlace write load own store flush

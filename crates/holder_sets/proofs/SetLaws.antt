@@ -9,10 +9,12 @@ use lib.Dec.{eqb}
 use lib.ListN.{length, getD, set, length-set}
 use lib.Seq.{getD-set-same, getD-set-other}
 use borrow.Author.Tests.{eqb-true, eq-eqb, ne-eqb}
+use Rattle.order.specs.Flag.{flag}
+use Rattle.order.proofs.FlagLaws.{flag-small}
 use Rattle.coherence.specs.declared.Slot.{Slot}
 use Rattle.coherence.specs.declared.Slot.the-variants.{Invalid, Shared, Modified}
 use Rattle.coherence.specs.declared.Directory.{Directory}
-use Rattle.coherence.specs.Slots.{place, slotAt, holds, modified, bit, unitsWith, holdersOf, heldBy, table, sound}
+use Rattle.coherence.specs.Slots.{place, slotAt, holds, modified, unitsWith, holdersOf, heldBy, table, sound}
 use Rattle.coherence.specs.Sentences.{SlotsLoaded, SlotsStored, SlotsThrough, SlotsFlushed}
 use Rattle.coherence.proofs.Cases.{four, eq-or-ne, true-or-false}
 use Rattle.coherence.proofs.SlotLaws.{place-lt, place-mod, holds-one, shared-holds, modified-holds, modified-is, is-modified, holds-invalid}
@@ -22,14 +24,9 @@ use Rattle.slots.specs.Directory.{blockOr}
 use Rattle.holder_sets.specs.Sets.{weightOf, vacated, fetchedSets, claimedSets, flushedSets, throughSets}
 
 -- ---- a set of units
-pub bit-le : (t : Bool) → bit t ≤ 1
-unfolding bit
-bit-le true = omega arith
-bit-le false = omega arith
-
 pub units-lt : (f : ℕ → Bool) → unitsWith f < 16
 unfolding unitsWith
-units-lt f = omega (arith, bit-le (f 0), bit-le (f 1), bit-le (f 2), bit-le (f 3))
+units-lt f = omega (arith, flag-small (f 0), flag-small (f 1), flag-small (f 2), flag-small (f 3))
 
 -- two sets of the same units
 units-same : (f g : ℕ → Bool) → ((v : ℕ) → v < 4 → f v ≡ g v) → unitsWith f ≡ unitsWith g
@@ -39,7 +36,7 @@ units-same f g h = rw (h 0 (omega arith), h 1 (omega arith), h 2 (omega arith), 
 -- unit u is in f and not in g, which else have the same units
 units-but : (f g : ℕ → Bool) (u : ℕ) → u < 4 → ((v : ℕ) → v < 4 → (v ≡ u → ⊥) → f v ≡ g v) → f u ≡ true → g u ≡ false
     → unitsWith f ≡ unitsWith g + weightOf u
-unfolding unitsWith weightOf bit
+unfolding unitsWith weightOf flag
 units-but f g u l h =
     four (λ u. ((v : ℕ) → v < 4 → (v ≡ u → ⊥) → f v ≡ g v) → f u ≡ true → g u ≡ false → unitsWith f ≡ unitsWith g + weightOf u)
     (λ h p q. rw (p, q, h 1 (omega arith) (omega arith), h 2 (omega arith) (omega arith), h 3 (omega arith) (omega arith)) (omega arith))
@@ -49,7 +46,7 @@ units-but f g u l h =
     u l h
 
 none : unitsWith (λ v. false) ≡ 0
-unfolding unitsWith bit
+unfolding unitsWith flag
 none = refl
 
 -- no unit but u

@@ -7,40 +7,42 @@ use native.Mathlib.Omega.{arith}
 use lib.Dec.{eqb}
 use borrow.Author.Tests.{eqb-true, eq-eqb, ne-eqb, leb-true, lt-leb}
 use lib.Count.{ones}
+use Rattle.order.specs.Flag.{flag}
 use Rattle.order.specs.Refusal.{firstRefusal}
+use Rattle.order.proofs.FlagLaws.{flag-small}
 use Rattle.order.proofs.RefusalLaws.{Passes, passed}
 use Rattle.numeric.specs.Bits.{sumBelow, bitAt, contains, onesBelow}
 use Rattle.numeric.proofs.BitsLaws.{sum-same, ones-count}
 use Rattle.coherence.specs.declared.Directory.{Directory}
-use Rattle.coherence.specs.Slots.{place, slotAt, slotOf, holds, bit, unitsWith, holdersOf, heldBy, sound}
+use Rattle.coherence.specs.Slots.{place, slotAt, slotOf, holds, unitsWith, holdersOf, heldBy, sound}
 use Rattle.coherence.specs.Refusal.{isBlock, directoryTest, targetTest}
 use Rattle.coherence.proofs.Cases.{four}
 use Rattle.coherence.proofs.Rules.{sound-placed, sound-sets}
 use Rattle.coherence.proofs.Theorem.{block-true, session-sound}
-use Rattle.holder_sets.proofs.SetLaws.{units-lt, bit-le}
+use Rattle.holder_sets.proofs.SetLaws.{units-lt}
 use Rattle.holders.specs.declared.HoldersAnswer.{HoldersAnswer}
 use Rattle.holders.specs.Holders.{holdersRefusal, holdersRefused, holdersAnswer, HoldsBlock, TellsHolders, HoldersTold, HoldersKept, SaysRefused}
 
 -- ---- a set of units
-bit-is : (t : Bool) → eqb (bit t) 1 ≡ t
-unfolding bit
-bit-is true = refl
-bit-is false = refl
+flag-is : (t : Bool) → eqb (flag t) 1 ≡ t
+unfolding flag
+flag-is true = refl
+flag-is false = refl
 
--- the bit of unit u
-bit-units : (f : ℕ → Bool) (u : ℕ) → u < 4 → bitAt u (unitsWith f) ≡ bit (f u)
+-- the flag of unit u
+bit-units : (f : ℕ → Bool) (u : ℕ) → u < 4 → bitAt u (unitsWith f) ≡ flag (f u)
 unfolding bitAt unitsWith
-bit-units f = four (λ u. unitsWith f / 2 ^ u % 2 ≡ bit (f u)) (d .0) (d .1) (d .2) (d .3)
+bit-units f = four (λ u. unitsWith f / 2 ^ u % 2 ≡ flag (f u)) (d .0) (d .1) (d .2) (d .3)
   where
-    d : (unitsWith f / 1 % 2 ≡ bit (f 0)) × (unitsWith f / 2 % 2 ≡ bit (f 1)) × (unitsWith f / 4 % 2 ≡ bit (f 2)) × (unitsWith f / 8 % 2 ≡ bit (f 3))
+    d : (unitsWith f / 1 % 2 ≡ flag (f 0)) × (unitsWith f / 2 % 2 ≡ flag (f 1)) × (unitsWith f / 4 % 2 ≡ flag (f 2)) × (unitsWith f / 8 % 2 ≡ flag (f 3))
     d =
-        let h₀ : bit (f 0) ≤ 1 = bit-le (f 0) in
-        let h₁ : bit (f 1) ≤ 1 = bit-le (f 1) in
-        let h₂ : bit (f 2) ≤ 1 = bit-le (f 2) in
-        let h₃ : bit (f 3) ≤ 1 = bit-le (f 3) in
+        let h₀ : flag (f 0) ≤ 1 = flag-small (f 0) in
+        let h₁ : flag (f 1) ≤ 1 = flag-small (f 1) in
+        let h₂ : flag (f 2) ≤ 1 = flag-small (f 2) in
+        let h₃ : flag (f 3) ≤ 1 = flag-small (f 3) in
         (omega arith, omega arith, omega arith, omega arith)
 
-holders-bit : (d : Directory) (b u : ℕ) → u < 4 → bitAt u (holdersOf d b) ≡ bit (holds (slotAt d (place u b)) b)
+holders-bit : (d : Directory) (b u : ℕ) → u < 4 → bitAt u (holdersOf d b) ≡ flag (holds (slotAt d (place u b)) b)
 unfolding holdersOf
 holders-bit d b u l = bit-units (λ v. holds (slotAt d (place v b)) b) u l
 
@@ -92,7 +94,7 @@ told d b e =
       needed = λ u l c. (b % 16, omega arith, rw (place-is u (b % 16) b (omega arith) (omega arith)) at (sym (in-set u l) ∙ c));
       count =
           ap (λ (r : HoldersAnswer). r .count) (gives d b e)
-          ∙ sum-same 4 (λ u. bitAt u (holdersOf d b)) (λ u. bit (holds (slotAt d (place u b)) b)) (holders-bit d b);
+          ∙ sum-same 4 (λ u. bitAt u (holdersOf d b)) (λ u. flag (holds (slotAt d (place u b)) b)) (holders-bit d b);
     }
   where
     sounds : sound d ≡ true
@@ -105,7 +107,7 @@ told d b e =
     in-set u l =
         ap (λ (x : ℕ). eqb (bitAt u x) 1) set-is
         ∙ ap (λ (x : ℕ). eqb x 1) (holders-bit d b u l)
-        ∙ bit-is (holds (slotAt d (place u b)) b)
+        ∙ flag-is (holds (slotAt d (place u b)) b)
 
 pub holders-told : HoldersTold
 unfolding HoldersTold

@@ -4,6 +4,7 @@ use mathlib.Core.Path.{_≡_}
 use mathlib.Core.Bool.{true, cond}
 use mathlib.Core.List.{List, [], _∷_}
 use lib.Dec.{eqb}
+use Rattle.order.specs.Flag.{flag}
 use Rattle.order.specs.Refusal.{accepted, firstRefusal}
 use Rattle.numeric.specs.Bits.{sumBelow, contains, onesBelow}
 use Rattle.coherence.specs.declared.Settings.{Settings}
@@ -11,7 +12,7 @@ use Rattle.coherence.specs.declared.Directory.{Directory}
 use Rattle.coherence.specs.declared.Call.{Call}
 use Rattle.coherence.specs.declared.Answer.{Answer}
 use Rattle.coherence.specs.declared.Start.{Start}
-use Rattle.coherence.specs.Slots.{slotOf, place, slotAt, holds, bit, heldBy}
+use Rattle.coherence.specs.Slots.{slotOf, place, slotAt, holds, heldBy}
 use Rattle.coherence.specs.Refusal.{isBlock, directoryTest, targetTest}
 use Rattle.coherence.specs.Demand3.{Session}
 use Rattle.holders.specs.declared.HoldersAnswer.{HoldersAnswer}
@@ -42,7 +43,7 @@ pub record TellsHolders (d : Directory) (b : ℕ) : Type 0 where
   pub units : holdersAnswer d b .set < 16
   pub enough : (u : ℕ) → u < 4 → HoldsBlock d u b → contains (holdersAnswer d b .set) u ≡ true
   pub needed : (u : ℕ) → u < 4 → contains (holdersAnswer d b .set) u ≡ true → HoldsBlock d u b
-  pub count : holdersAnswer d b .count ≡ sumBelow 4 (λ u. bit (holds (slotAt d (place u b)) b))
+  pub count : holdersAnswer d b .count ≡ sumBelow 4 (λ u. flag (holds (slotAt d (place u b)) b))
 
 -- of every accepted call, whatever directory it is given
 unfoldable pub HoldersTold : Type 0

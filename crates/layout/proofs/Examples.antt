@@ -1,7 +1,7 @@
 -- The bytes of the examples, computed from the definitions.
 use mathlib.Core.Path.{refl}
 use Rattle.order.specs.Flag.{flag}
-use Rattle.coherence.specs.Slots.{place, stateNumber, slotAt, setSlot, blockOf, holds, bit, unitsWith, holdersOf, table, kept, coldDirectory}
+use Rattle.coherence.specs.Slots.{place, stateNumber, slotAt, setSlot, blockOf, holds, unitsWith, holdersOf, table, kept, coldDirectory}
 use Rattle.coherence.specs.Settings.{isThrough, through}
 use Rattle.boards.specs.Boards.{weighed, setOf}
 use Rattle.layout.specs.Directory.{slotBytes, settingsBytes, frontBytes, encoded, slotsPut, setsPut, leftPut, directoryPut, slotSpelled}
@@ -9,7 +9,7 @@ use Rattle.layout.specs.Examples.{chosen, mixed, Examples}
 
 pub examples : Examples
 unfolding
-    flag place slotAt setSlot blockOf holds bit unitsWith holdersOf table kept coldDirectory stateNumber
+    flag place slotAt setSlot blockOf holds unitsWith holdersOf table kept coldDirectory stateNumber
     slotBytes settingsBytes frontBytes encoded slotsPut setsPut leftPut directoryPut slotSpelled
     chosen mixed isThrough through weighed setOf
 examples =

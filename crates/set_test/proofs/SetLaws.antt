@@ -7,10 +7,11 @@ use native.Mathlib.Omega.{arith}
 use lib.Dec.{eqb}
 use lib.ListN.{getD}
 use borrow.Author.Tests.{eq-eqb, ne-eqb, eqb-true}
+use Rattle.order.specs.Flag.{flag}
 use Rattle.coherence.specs.declared.Slot.{Slot}
 use Rattle.coherence.specs.declared.Slot.the-variants.{Invalid, Shared, Modified}
 use Rattle.coherence.specs.declared.Directory.{Directory}
-use Rattle.coherence.specs.Slots.{place, slotAt, slotOf, holds, bit, unitsWith, holdersOf, heldBy, soundSets}
+use Rattle.coherence.specs.Slots.{place, slotAt, slotOf, holds, unitsWith, holdersOf, heldBy, soundSets}
 use Rattle.coherence.proofs.Below.{both, below-at, all-below}
 use Rattle.coherence.proofs.Cases.{four}
 use Rattle.slots.specs.Directory.{blockOr}
@@ -18,12 +19,12 @@ use Rattle.set_test.specs.Sets.{noBlock, SlotBySlot, weighed, setOf, set
 use Rattle.set_test.proofs.Turns.{four-told}
 
 -- ---- one slot: no block below 64 is what stands for the block of an invalid slot
-by-test : (t : Bool) (w : ℕ) → cond t w 0 ≡ w * bit t
-unfolding bit
+by-test : (t : Bool) (w : ℕ) → cond t w 0 ≡ w * flag t
+unfolding flag
 by-test true w = omega arith
 by-test false w = omega arith
 
-weighed-is : (x : Slot) (c w : ℕ) → c < 64 → weighed (blockOr x noBlock) c w ≡ w * bit (holds x c)
+weighed-is : (x : Slot) (c w : ℕ) → c < 64 → weighed (blockOr x noBlock) c w ≡ w * flag (holds x c)
 unfolding weighed blockOr holds
 weighed-is Invalid c w h = ap (λ (t : Bool). cond t w 0) (ne-eqb noBlock c (λ z. omega arith)) ∙ by-test false w
 weighed-is (Shared b) c w h = by-test (eqb b c) w
@@ -40,7 +41,7 @@ unfolding setAt setOf holdersOf unitsWith
 set-is d b row s p hr hs =
     let e = four-told (λ x. blockOr x noBlock) d b s p hs in
     let same : s + 16 * row ≡ 16 * row + s = omega arith in
-    let weight : (u w : ℕ) → weighed (blockOr (slotOf d u s) noBlock) (16 * row + s) w ≡ w * bit (holds (slotOf d u s) (16 * row + s)) =
+    let weight : (u w : ℕ) → weighed (blockOr (slotOf d u s) noBlock) (16 * row + s) w ≡ w * flag (holds (slotOf d u s) (16 * row + s)) =
     λ u w. weighed-is (slotOf d u s) (16 * row + s) w (omega arith) in
     rw (same, e .0, e .1, e .2, e .3, held-at d 0 row s hs, held-at d 1 row s hs, held-at d 2 row s hs, held-at d 3 row s hs)
     (simp (weight 0, weight 1, weight 2, weight 3) (omega arith))
