@@ -1,4 +1,6 @@
 // A call's answer as numbers that a caller lends space for.
+#![tactic(auto)]
+
 ghost use Rattle.std.specs.Prelude.{◌≡◌, ◌+◌, ◌≤◌, length};
 ghost use Rattle.std.proofs.lemmas.List.Edits.{sets};
 ghost use Rattle.answer_layout.specs.Answer.{order_numbers, answer_put};

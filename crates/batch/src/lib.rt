@@ -1,4 +1,6 @@
 // A whole list of accesses in one call (document 02, T-03): the loaded values go to a lent space, and the first refused access ends the list.
+#![tactic(auto)]
+
 ghost use Rattle.std.specs.Prelude.{◌≡◌, length, take};
 ghost use Rattle.batch_rules.specs.Batch.{batch, result};
 ghost use Rattle.batch.specs.Step.{Room, Stepped};

@@ -1,5 +1,7 @@
 // A whole list of accesses in one call, with the accesses as numbers (document 02, T-03): kind, unit, address or block, and value of each. They are run in
 // parts, each of which is put into an array.
+#![tactic(auto)]
+
 ghost use Rattle.std.specs.Prelude.{◌+◌, ◌*◌, ◌≤◌, ◌≡◌, cond, length, take};
 ghost use Rattle.order.specs.Refusal.{accepted};
 ghost use Rattle.batch_rules.specs.Batch.{batch};

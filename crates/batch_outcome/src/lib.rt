@@ -1,4 +1,6 @@
 // What a list of accesses answers before its first access, whether another one is to be made, and a refusal of the list's own (document 02, T-03).
+#![tactic(auto)]
+
 ghost use Rattle.std.specs.Prelude.{◌≡◌, ◌&&◌, eqb, ltb};
 ghost use Rattle.order.specs.Refusal.{accepted};
 ghost use Rattle.crossing.specs.Capped.{capped};

@@ -1,4 +1,6 @@
 // What a list of accesses in one call takes and answers (document 02, T-03). Its rules are in specs/, the theorems in proofs/.
+#![tactic(auto)]
+
 use coherence::{Call, Directory};
 
 // An access as a list holds it.

@@ -1,5 +1,7 @@
 // Blocks of 32 bytes and words of 4 bytes in a lent store, and the bytes that an access moves. Where a store has no such block or word, nothing is moved,
 // and the word reads as 0. A block is moved through an array by value.
+#![tactic(auto)]
+
 ghost use Rattle.std.specs.Prelude.{◌≡◌, cond, ◌+◌, ◌*◌, ◌<◌, ◌≤◌, length, replicate};
 ghost use Rattle.coherence.specs.Bytes.{block_at, put_block};
 ghost use Rattle.blocks.specs.Moves.{copied, word_in, word_put, evicted_memory, yielded_memory, fetched_memory, fetched_cache};

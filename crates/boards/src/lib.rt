@@ -1,4 +1,6 @@
 // The settings as numbers: the set of the units that have a write-through board, unit 0 with weight 1, unit 3 with weight 8; and steal beside it.
+#![tactic(auto)]
+
 ghost use Rattle.std.specs.Prelude.{◌≡◌, ◌≤◌};
 ghost use Rattle.boards.specs.Boards.{board_of, settings_of, weighed, set_of};
 

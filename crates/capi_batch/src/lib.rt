@@ -1,4 +1,6 @@
 // A whole list of accesses in one call, for programs in other languages: `include/trainer.h` declares this function. The accesses are four numbers each.
+#![tactic(auto)]
+
 ghost use Rattle.std.specs.Prelude.{◌≡◌, cond, eqb};
 ghost use Rattle.layout.specs.Directory.{directory_put};
 ghost use Rattle.capi_batch.specs.Batch.{called, directory_left};

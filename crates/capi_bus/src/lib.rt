@@ -1,5 +1,7 @@
 // Parity, lanes, signals and answer codes for programs in other languages: `include/trainer.h` declares these functions. Everything crosses as
 // numbers. Each function is total, and a refused call writes nothing.
+#![tactic(auto)]
+
 mod class;
 
 ghost use Rattle.std.specs.Prelude.{◌≡◌};

@@ -1,5 +1,7 @@
 // The drill for programs in other languages: `include/trainer.h` declares this function. Slices cross as pointer and length. It is total, and a refused
 // call writes nothing.
+#![tactic(auto)]
+
 ghost use Rattle.std.specs.Prelude.{◌≡◌, length};
 ghost use Rattle.text.specs.Space.{placed};
 ghost use Rattle.drill_format.specs.Drill.{drill_text, drilled_in};

@@ -1,5 +1,7 @@
 // The bus handler for programs in other languages: `include/trainer.h` declares these functions. Its state crosses as three numbers in a lent slice, all
 // else as numbers. Each function is total, and a refused call writes nothing.
+#![tactic(auto)]
+
 mod state;
 
 ghost use Rattle.std.specs.Prelude.{◌≡◌};

@@ -1,4 +1,6 @@
 // The call for a block's holders for programs in other languages: `include/trainer.h` declares it. Slices cross as pointer and length, all else as numbers.
+#![tactic(auto)]
+
 ghost use Rattle.std.specs.Prelude.{◌≡◌};
 ghost use Rattle.capi_holders.specs.Holders.{holders_returned, set_left, count_left};
 

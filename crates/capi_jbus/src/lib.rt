@@ -1,5 +1,7 @@
 // Interrupts on J-Bus for programs in other languages: `include/trainer.h` declares these functions. Everything crosses as numbers. Each
 // function is total, and a refused call writes nothing.
+#![tactic(auto)]
+
 ghost use Rattle.std.specs.Prelude.{◌≡◌};
 ghost use Rattle.jbus.specs.Device.{device_number};
 ghost use Rattle.jbus.specs.Interrupt.{interrupt_read, cycle_written};

@@ -1,5 +1,7 @@
 // The cache machine's calls for programs in other languages: `include/trainer.h` declares these functions. Slices cross as pointer and length, all else as
 // numbers. Each function is total, and a refused call writes nothing but what its contract says.
+#![tactic(auto)]
+
 ghost use Rattle.std.specs.Prelude.{◌≡◌};
 ghost use Rattle.coherence.specs.declared.Call.TheVariants.{Load, Store, Flush};
 ghost use Rattle.capi_machine.specs.Call.{narrowed, returned, directory_left, memory_left, cache_left, answer_left};

@@ -1,5 +1,7 @@
 // Messages between boards for programs in other languages: `include/trainer.h` declares these functions. Slices cross as pointer and
 // length, all else as numbers. Each function is total, and a refused call writes nothing.
+#![tactic(auto)]
+
 mod layout;
 mod operation;
 

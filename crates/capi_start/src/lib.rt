@@ -1,4 +1,6 @@
 // The cold start for programs in other languages: `include/trainer.h` declares it. Slices cross as pointer and length, all else as numbers.
+#![tactic(auto)]
+
 ghost use Rattle.std.specs.Prelude.{◌≡◌};
 ghost use Rattle.capi_start.specs.Start.{start_returned, start_cache, start_directory};
 

@@ -1,5 +1,7 @@
 // The tape for programs in other languages: `include/trainer.h` declares these functions. Slices cross as pointer and length, all else as numbers.
 // Each function is total, and a refused call writes nothing but what its contract says.
+#![tactic(auto)]
+
 ghost use Rattle.std.specs.Prelude.{◌≡◌, [], ◌∷◌, ◌++◌, ◌≤◌, length, drop};
 ghost use Rattle.record_numbers.specs.Entry.{record_width, record_from};
 ghost use Rattle.capi_tape.specs.Calls.{read_returned, numbers_left, next_left, write_returned, space_left, written_left};

@@ -1,4 +1,6 @@
 // What the cache machine's calls take and answer. Its rules and demand 3 are in specs/, the theorems in proofs/.
+#![tactic(auto)]
+
 use order::Order;
 
 // One slot of a unit's cache, after document 01, "The directory": invalid (I), shared and unmodified (SU), or exclusive and

@@ -1,5 +1,7 @@
 // What the crates for other languages share: a number as a narrower type takes it. The laws on lent spaces that are filled from their start are in
 // proofs/.
+#![tactic(auto)]
+
 ghost use Rattle.std.specs.Prelude.{◌≡◌};
 ghost use Rattle.crossing.specs.Capped.{capped};
 

@@ -1,4 +1,6 @@
 // Drill: reads a tape from standard input and prints what the machine did. One byte more than a tape may have is read, to know a longer one.
+#![tactic(auto)]
+
 use drill_text::{TEXT_MOST, drill_input};
 use input::read_input;
 use libc::{STDIN_FILENO, STDOUT_FILENO};

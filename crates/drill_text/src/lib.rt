@@ -1,4 +1,6 @@
 // A whole drill as a function from the bytes of a tape to the bytes that are printed.
+#![tactic(auto)]
+
 ghost use Rattle.std.specs.Prelude.{◌≡◌, ◌≤◌, length};
 ghost use Rattle.order.specs.Refusal.{accepted};
 ghost use Rattle.text.specs.Space.{placed};

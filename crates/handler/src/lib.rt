@@ -1,4 +1,6 @@
 // The bus handler: which unit the bus is granted to, and the lock (document 01, "The bus handler").
+#![tactic(auto)]
+
 ghost use Rattle.std.specs.Prelude.{◌≡◌, true, ◌≤◌};
 ghost use Rattle.handler.specs.Handler.{met, first_met, lock_next, moved, granted, nobody, low_grant, grant_next, lock_allowed, state_allowed, allowed, arbitration, initial};
 ghost use Rattle.numeric.specs.Bits.{contains};

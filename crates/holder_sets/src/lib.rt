@@ -1,5 +1,7 @@
 // The sets of holders that a directory keeps, unit 0 having weight 1, unit 3 weight 8: one set read, and the sets that an access leaves, from those that it
 // found. Past the last block one reads as empty, and setting one changes nothing.
+#![tactic(auto)]
+
 ghost use Rattle.std.specs.Prelude.{◌≡◌, ◌-◌, set, slice_index, slice_set};
 ghost use Rattle.holder_sets.specs.Sets.{weight_of, vacated, fetched_sets, claimed_sets, flushed_sets, through_sets};
 

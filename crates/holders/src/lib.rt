@@ -1,4 +1,6 @@
 // Who holds a block: the set of the units that hold it, unit 0 having weight 1, unit 3 weight 8, and how many they are.
+#![tactic(auto)]
+
 ghost use Rattle.std.specs.Prelude.{◌≡◌};
 ghost use Rattle.holders.specs.Holders.{holders_refused, holders_answer};
 

@@ -1,4 +1,6 @@
 // A descriptor read into a buffer, with a read that failed told from the end. Which bytes come is the system's: no contract speaks of them.
+#![tactic(auto)]
+
 ghost use Rattle.io.specs.Counts.{IsPrefixLen};
 ghost use Rattle.std.specs.Prelude.{◌≤◌, length};
 

@@ -1,4 +1,6 @@
 // Interrupts on the neighbour bench's J-Bus (document 02, T-14): their address cycle, read and written.
+#![tactic(auto)]
+
 mod device;
 mod interrupt;
 

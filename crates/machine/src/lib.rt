@@ -1,6 +1,8 @@
 // The cache machine: cold start, loads, stores and flushes. Each call tests its inputs, and answers and leaves what the
 // definitions of `coherence` say, for every input. A call takes slots, settings and sets of holders apart,
 // and its answer puts them together.
+#![tactic(auto)]
+
 ghost use Rattle.std.specs.Prelude.{◌≡◌};
 ghost use Rattle.coherence.specs.declared.Call.TheVariants.{Load, Store, Flush};
 ghost use Rattle.coherence.specs.Calls.{answer, memory_after, cache_after, start_answer, cache_started};

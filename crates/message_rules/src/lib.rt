@@ -1,4 +1,5 @@
 // What sender and receiver of a message take and answer (document 02, T-01). The rules are in specs/, the theorems in proofs/.
+#![tactic(auto)]
 
 // What an operation is of its message: Table 6, "Message sequence".
 #[derive(Drop)]

@@ -1,5 +1,7 @@
 // Five million loads and stores on copyback boards in one loop, to be timed: the machine's calls with no boundary around them. It prints a sum of the loaded values,
 // which is compared with that of the second implementation in `outside/`.
+#![tactic(auto)]
+
 use coherence::{Answer, Directory};
 use slots::drill_settings;
 

@@ -1,4 +1,6 @@
 // Numbers on the tape (document 01, "The tape"; document 02, T-04), read.
+#![tactic(auto)]
+
 ghost use Rattle.std.specs.Prelude.{◌≡◌, ◌<◌, length, get_or};
 ghost use Rattle.number.specs.Number.{number_at};
 

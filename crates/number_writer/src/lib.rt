@@ -1,4 +1,6 @@
 // Numbers on the tape (document 01, "The tape"; document 02, T-04), written, and how many bytes they take (document 02, T-06).
+#![tactic(auto)]
+
 ghost use Rattle.std.specs.Prelude.{◌≡◌, ◌+◌, ◌≤◌, length};
 ghost use Rattle.std.proofs.lemmas.List.Edits.{sets};
 ghost use Rattle.number.specs.Number.{spell, spell_all, filled};

@@ -1,1 +1,2 @@
 // Sums, bits and ranges of numbers: definitions and laws that several crates share, and no code.
+#![tactic(auto)]

@@ -1,4 +1,6 @@
 // Bus orders and the numbers of refusal: what the tape and the machine both speak of.
+#![tactic(auto)]
+
 ghost use Rattle.std.specs.Prelude.{◌≡◌};
 ghost use Rattle.order.specs.Command.{command_number, command_of};
 ghost use Rattle.order.specs.Flag.{flag};

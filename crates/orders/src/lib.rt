@@ -1,4 +1,6 @@
 // The orders that an access gives, as an answer has them, and the answer itself.
+#![tactic(auto)]
+
 ghost use Rattle.std.specs.Prelude.{◌≡◌, false, [], ◌∷◌};
 ghost use Rattle.coherence.specs.Calls.{no_order, packed};
 ghost use Rattle.order.specs.declared.Command.TheVariants.{Copyback};

@@ -1,4 +1,6 @@
 // Peek: where the newest bytes of a block stand, in the machine as the calls have left it.
+#![tactic(auto)]
+
 ghost use Rattle.std.specs.Prelude.{◌≡◌, cond, ◌+◌};
 ghost use Rattle.coherence.specs.Refusal.{peek_refusal};
 ghost use Rattle.coherence.specs.Peek.{peeked, peek_from_cache, peek_offset};

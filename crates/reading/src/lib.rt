@@ -1,4 +1,6 @@
 // A tape read whole: the call that a record asks of the machine.
+#![tactic(auto)]
+
 ghost use Rattle.std.specs.Prelude.{◌≡◌};
 ghost use Rattle.reading.specs.Reading.{access_of};
 

@@ -1,4 +1,6 @@
 // A tape's record from seven numbers, as a program in another language gives them: its kind, its fields, and any numbers behind them.
+#![tactic(auto)]
+
 ghost use Rattle.std.specs.Prelude.{◌≡◌};
 ghost use Rattle.record_numbers.specs.Entry.{store_from, order_from, answer_from, register_from, loaded_from, record_from};
 

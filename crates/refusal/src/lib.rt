@@ -1,4 +1,6 @@
 // The tests of a call, in their order, and the number of the first that fails.
+#![tactic(auto)]
+
 ghost use Rattle.std.specs.Prelude.{◌≡◌};
 ghost use Rattle.coherence.specs.Refusal.{sized, is_address, call_refusal};
 

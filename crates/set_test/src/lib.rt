@@ -1,5 +1,7 @@
 // The test of the sets of holders, by the block of each slot. It goes over numbers of 8 bits, without early exit, so that the compiler takes sixteen blocks at
 // a time (docs/PERFORMANCE.md).
+#![tactic(auto)]
+
 ghost use Rattle.std.specs.Prelude.{◌≡◌, ◌≤◌, ◌<◌};
 ghost use Rattle.set_test.specs.Sets.{weighed, set_of, sets_agree, sets_sound};
 

@@ -1,5 +1,7 @@
 // The test of the directory's rules: of the slots, of the boards' kinds and of the sets of holders. Each goes over numbers of 8 bits, without early exit, so
 // that the compiler takes sixteen slots at a time (docs/PERFORMANCE.md).
+#![tactic(auto)]
+
 ghost use Rattle.std.specs.Prelude.{◌≡◌, ◌≤◌, ◌<◌};
 ghost use Rattle.coherence.specs.Slots.{state_number, sound};
 ghost use Rattle.slots.specs.Directory.{block_or};

@@ -1,4 +1,6 @@
 // Reading a record, one function for each kind (document 01, "The tape"; document 02, T-04).
+#![tactic(auto)]
+
 ghost use Rattle.std.specs.Prelude.{◌≡◌, ℕ};
 ghost use Rattle.tape_format.specs.Record.{fields_at, load, store, flush, answer, register, loaded, stamp, kind_at, record_at};
 

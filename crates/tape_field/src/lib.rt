@@ -1,4 +1,6 @@
 // The fields of a record: which numbers each may hold (document 01, "The tape"; document 02, T-04).
+#![tactic(auto)]
+
 ghost use Rattle.std.specs.Prelude.{◌≡◌};
 ghost use Rattle.tape_format.specs.Field.{retried_most, allowed, field_at};
 

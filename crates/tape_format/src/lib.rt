@@ -1,4 +1,6 @@
 // What a tape's records are, and what reading and writing one answer. The format and its laws are in specs/, the theorems in proofs/.
+#![tactic(auto)]
+
 use order::{Command, Order};
 
 // The rule of a field. A `Retried` goes by the order's command, and a `To` by the record's `from`.

@@ -1,4 +1,6 @@
 // A reader: the tape together with a place on it (document 01, "The tape"). Each function takes the reader apart and leaves the work to one on the slice and the place.
+#![tactic(auto)]
+
 ghost use Rattle.std.specs.Prelude.{◌≡◌};
 ghost use Rattle.tape_format.specs.Record.{record_at};
 ghost use Rattle.tape_format.specs.Reader.{place_after};

@@ -1,4 +1,6 @@
 // Writing records, and how many bytes one takes (document 01, "The tape"; document 02, T-04 and T-06).
+#![tactic(auto)]
+
 ghost use Rattle.std.specs.Prelude.{◌≡◌, ◌∷◌, length};
 ghost use Rattle.tape_format.specs.Record.{kind_of, fields_of};
 ghost use Rattle.tape_writer.specs.Numbers.{padded};

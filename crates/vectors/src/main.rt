@@ -1,5 +1,7 @@
 // Runs the rows of the file `stdin` beside src/ through the library for host programs, and prints each row with its answer in numbers. The file `stdout` has
 // what must be printed: values of document 01, and of document 02 where it amends 01. A line that begins with a quotation mark is a heading.
+#![tactic(auto)]
+
 mod bus;
 mod caches;
 mod tapes;

@@ -1,4 +1,6 @@
 // A store of a unit that has a write-through board, once no test has refused it.
+#![tactic(auto)]
+
 ghost use Rattle.std.specs.Prelude.{◌≡◌, false};
 ghost use Rattle.order.specs.declared.Command.TheVariants.{MemoryWrite};
 ghost use Rattle.coherence.specs.Slots.{owner_of};
