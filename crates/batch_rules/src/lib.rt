@@ -4,14 +4,14 @@
 use coherence::{Call, Directory};
 
 // An access as a list holds it.
-#[derive(Drop)]
+#[derive(Clone, Copy)]
 pub struct Access {
     pub call: Call,
 }
 
 // What a list of accesses answers. `refusal` is 0 if the whole list was accepted. `index` is how many accesses were made: the index of the refused one, or
 // the list's length. `orders` counts the orders of those made; `directory` is the one that they leave.
-#[derive(Drop)]
+#[derive(Clone, Copy)]
 pub struct Outcome {
     pub refusal: u8,
     pub index: usize,

@@ -6,7 +6,7 @@ ghost use Rattle.bus.specs.Answer.{class_of, code_of, is_error};
 
 use order::FIELD_RANGE;
 
-#[derive(Drop)]
+#[derive(Clone, Copy)]
 pub enum Class {
     NoError,
     NoErrorLock,
@@ -24,7 +24,7 @@ pub enum Class {
 }
 
 // The code of a class, or the number of refusal where the class carries a number that is not in its row.
-#[derive(Drop)]
+#[derive(Clone, Copy)]
 pub enum CodeFound {
     Code(u8),
     Refused(u8),

@@ -5,7 +5,7 @@ ghost use Rattle.bus.specs.Lanes.{lanes_of};
 use order::FIELD_RANGE;
 
 // How many 8-byte words an access takes, and its valid positions: position 0 of the first word has weight 1.
-#[derive(Drop)]
+#[derive(Clone, Copy)]
 pub struct ByteLanes {
     pub refusal: u8,
     pub words: u8,

@@ -4,7 +4,7 @@ ghost use Rattle.numeric.specs.Bits.{bit_at};
 ghost use Rattle.bus.specs.Parity.{byte_at, wrong_bit, parity_of, wrong_of, check_of};
 
 // The bytes that are wrong, in the weights of the parity bits, and how many they are.
-#[derive(Drop)]
+#[derive(Clone, Copy)]
 pub struct Checked {
     pub wrong: u8,
     pub count: u32,

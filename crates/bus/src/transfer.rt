@@ -5,7 +5,7 @@ ghost use Rattle.bus.specs.Transfer.{plan_of, refused_plan};
 use order::FIELD_RANGE;
 
 // The levels in one cycle, and the level of ET at the request; true is asserted.
-#[derive(Drop)]
+#[derive(Clone, Copy)]
 pub struct SignalPlan {
     pub refusal: u8,
     pub bs: bool,

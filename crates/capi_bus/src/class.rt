@@ -6,7 +6,7 @@ use bus::answer::Class;
 use crossing::byte;
 
 // The class that two numbers stand for, if there is one.
-#[derive(Drop)]
+#[derive(Clone, Copy)]
 pub(crate) enum ClassFound {
     Known(Class),
     Unknown,

@@ -5,7 +5,7 @@ use order::Order;
 
 // One slot of a unit's cache, after document 01, "The directory": invalid (I), shared and unmodified (SU), or exclusive and
 // modified (EM). The valid cases carry the block number; an invalid slot has none to carry, and its block counts as 0.
-#[derive(Drop)]
+#[derive(Clone, Copy)]
 pub enum Slot {
     Invalid,
     Shared(u8),
@@ -13,28 +13,28 @@ pub enum Slot {
 }
 
 // A slot as an array of slots holds it.
-#[derive(Drop)]
+#[derive(Clone, Copy)]
 pub struct Entry {
     pub slot: Slot,
 }
 
 // What a processor board's cache does with a store: a copyback cache keeps the word until a copyback, a write-through cache (ISO/IEC 14576, 2.1,
 // item 26) gives it to memory at once.
-#[derive(Drop)]
+#[derive(Clone, Copy)]
 pub enum Kind {
     Copyback,
     WriteThrough,
 }
 
 // A board as an array of boards holds it.
-#[derive(Drop)]
+#[derive(Clone, Copy)]
 pub struct Board {
     pub kind: Kind,
 }
 
 // What is chosen at cold start and stays: the board of each unit, and whether a unit whose read or modified read was retried takes the block during the
 // holder's copyback (document 02, T-13).
-#[derive(Drop)]
+#[derive(Clone, Copy)]
 pub struct Settings {
     pub boards: [Board; 4],
     pub steal: bool,
@@ -42,7 +42,7 @@ pub struct Settings {
 
 // The slots of all four units, slot s of unit u being number 16 u + s; the settings; and for each block the set of units that hold it, unit 0 having
 // weight 1, unit 3 weight 8.
-#[derive(Drop)]
+#[derive(Clone, Copy)]
 pub struct Directory {
     pub slots: [Entry; 64],
     pub settings: Settings,
@@ -50,7 +50,7 @@ pub struct Directory {
 }
 
 // One call of the machine.
-#[derive(Drop)]
+#[derive(Clone, Copy)]
 pub enum Call {
     Load { unit: u8, address: u32 },
     Store { unit: u8, address: u32, value: u32 },
@@ -58,14 +58,14 @@ pub enum Call {
 }
 
 // A call's orders in sequence: the first `count` places of the list.
-#[derive(Drop)]
+#[derive(Clone, Copy)]
 pub struct Orders {
     pub count: usize,
     pub list: [Order; 4],
 }
 
 // What a call answers. `refusal` is 0 if it was accepted; `directory` is the one that it leaves.
-#[derive(Drop)]
+#[derive(Clone, Copy)]
 pub struct Answer {
     pub refusal: u8,
     pub value: u32,
@@ -74,7 +74,7 @@ pub struct Answer {
 }
 
 // What a cold start answers.
-#[derive(Drop)]
+#[derive(Clone, Copy)]
 pub struct Start {
     pub refusal: u8,
     pub directory: Directory,

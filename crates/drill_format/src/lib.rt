@@ -2,7 +2,7 @@
 // `refusal` is 0, or 9 where the lent space is too small; `count` is how many bytes of it the text takes.
 #![tactic(auto)]
 
-#[derive(Drop)]
+#[derive(Clone, Copy)]
 pub struct Drilled {
     pub refusal: u8,
     pub count: usize,

@@ -12,7 +12,7 @@ use tape::read_record;
 use tape_format::{Record, RecordRead};
 
 // A drill underway: the machine's directory, the place in the text, and the calls and orders so far.
-#[derive(Drop)]
+#[derive(Clone, Copy)]
 pub struct Progress {
     pub directory: Directory,
     pub at: usize,

@@ -8,34 +8,34 @@ ghost use Rattle.numeric.specs.Bits.{contains};
 use order::BAD_STATE;
 
 // How a unit asks for the bus: by RQH or by RQL.
-#[derive(Drop)]
+#[derive(Clone, Copy)]
 pub enum Class {
     High,
     Low,
 }
 
-#[derive(Drop)]
+#[derive(Clone, Copy)]
 pub enum Lock {
     Free,
     Owner(u8),
 }
 
 // What the handler keeps from call to call: the last unit granted in each class, and the lock.
-#[derive(Drop)]
+#[derive(Clone, Copy)]
 pub struct State {
     pub last_high: u8,
     pub last_low: u8,
     pub lock: Lock,
 }
 
-#[derive(Drop)]
+#[derive(Clone, Copy)]
 pub enum Grant {
     Nobody,
     To(Class, u8),
 }
 
 // The answer to a call: the number of refusal or 0, the grant, and the state for the next call.
-#[derive(Drop)]
+#[derive(Clone, Copy)]
 pub struct Arbitration {
     pub refusal: u8,
     pub grant: Grant,

@@ -10,7 +10,7 @@ use order::{BAD_ADDRESS, BROKEN_DIRECTORY};
 use soundness::is_sound;
 
 // What the call answers. `refusal` is 0 if it was accepted.
-#[derive(Drop)]
+#[derive(Clone, Copy)]
 pub struct HoldersAnswer {
     pub refusal: u8,
     pub set: u8,

@@ -2,7 +2,7 @@
 ghost use Rattle.std.specs.Prelude.{◌≡◌};
 ghost use Rattle.jbus.specs.Device.{device_of};
 
-#[derive(Drop)]
+#[derive(Clone, Copy)]
 pub enum Device {
     Processor,
     NotSupported,

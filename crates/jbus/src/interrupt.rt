@@ -20,27 +20,27 @@ const IGNORED_WEIGHT: u64 = 1 << 48;
 const INTERRUPT_REQUEST: u64 = 0x14;
 
 // J_AD[127:64] and J_AD[63:0].
-#[derive(Drop)]
+#[derive(Clone, Copy)]
 pub struct AddressCycle {
     pub upper: u64,
     pub lower: u64,
 }
 
 // The target's thread, the source's agent ID, and the device that it names.
-#[derive(Drop)]
+#[derive(Clone, Copy)]
 pub struct Interrupt {
     pub target: u32,
     pub agent: u32,
     pub device: Device,
 }
 
-#[derive(Drop)]
+#[derive(Clone, Copy)]
 pub enum InterruptRead {
     Interrupt(Interrupt),
     Refused(u8),
 }
 
-#[derive(Drop)]
+#[derive(Clone, Copy)]
 pub enum CycleWritten {
     Cycle(AddressCycle),
     Refused(u8),

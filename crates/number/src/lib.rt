@@ -12,7 +12,7 @@ pub const GROUPS: u64 = 10;
 pub const LAST: u64 = 1;
 
 // A number with the place after it, or the number of the refusal with its place.
-#[derive(Drop)]
+#[derive(Clone, Copy)]
 pub enum NumberRead {
     Number(u64, usize),
     Refused(u8, usize),

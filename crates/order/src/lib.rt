@@ -40,7 +40,7 @@ pub const HALVES_DIFFER: u8 = 17;
 pub const UNREADABLE: u8 = 18;
 
 // What an order asks of the bus.
-#[derive(Drop)]
+#[derive(Clone, Copy)]
 pub enum Command {
     Read,
     ModifiedRead,
@@ -50,7 +50,7 @@ pub enum Command {
 }
 
 // One order on the bus: the unit that gives it, and whether it was answered with a retry.
-#[derive(Drop)]
+#[derive(Clone, Copy)]
 pub struct Order {
     pub unit: u8,
     pub command: Command,
@@ -59,7 +59,7 @@ pub struct Order {
 }
 
 // The command that has a number, if there is one.
-#[derive(Drop)]
+#[derive(Clone, Copy)]
 pub enum CommandFound {
     Known(Command),
     Unknown,

@@ -8,7 +8,7 @@ use coherence::Call;
 use tape_format::Record;
 
 // The call of a record that asks one of the machine.
-#[derive(Drop)]
+#[derive(Clone, Copy)]
 pub enum Access {
     Asks(Call),
     Other,

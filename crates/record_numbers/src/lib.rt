@@ -9,7 +9,7 @@ use order::{CommandFound, FIELD_RANGE, Order, UNKNOWN_KIND, command_of};
 use tape_format::Record;
 
 // The record that seven numbers name, or the number of the refusal.
-#[derive(Drop)]
+#[derive(Clone, Copy)]
 pub enum RecordFound {
     Known(Record),
     Refused(u8),

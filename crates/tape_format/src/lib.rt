@@ -4,7 +4,7 @@
 use order::{Command, Order};
 
 // The rule of a field. A `Retried` goes by the order's command, and a `To` by the record's `from`.
-#[derive(Drop)]
+#[derive(Clone, Copy)]
 pub enum Rule {
     Unit,
     Address,
@@ -19,7 +19,7 @@ pub enum Rule {
     Cycles,
 }
 
-#[derive(Drop)]
+#[derive(Clone, Copy)]
 pub enum Record {
     Load(u8, u32),
     Store(u8, u32, u32),
@@ -44,7 +44,7 @@ pub enum Record {
 }
 
 // A record with the place after it, the tape's end, or the number of the refusal with its place.
-#[derive(Drop)]
+#[derive(Clone, Copy)]
 pub enum RecordRead {
     Record(Record, usize),
     Finished,
@@ -52,7 +52,7 @@ pub enum RecordRead {
 }
 
 // How many bytes a record has, or the number of the refusal.
-#[derive(Drop)]
+#[derive(Clone, Copy)]
 pub enum Written {
     Bytes(usize),
     Refused(u8),

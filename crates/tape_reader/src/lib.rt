@@ -8,7 +8,7 @@ ghost use Rattle.tape_format.specs.Reader.{place_after};
 use tape::read_record;
 use tape_format::RecordRead;
 
-#[derive(Drop)]
+#[derive(Clone, Copy)]
 pub struct Reader<'a> {
     pub tape: &'a [u8],
     pub place: usize,

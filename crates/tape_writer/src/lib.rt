@@ -13,7 +13,7 @@ use tape_field::allows;
 use tape_format::{Record, Rule, Written};
 
 // The numbers that a record is spelled as: the first `count` of `values`.
-#[derive(Drop)]
+#[derive(Clone, Copy)]
 pub struct Numbers {
     pub count: usize,
     pub values: [u64; 7],

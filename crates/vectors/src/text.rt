@@ -3,7 +3,7 @@ use libc::STDOUT_FILENO;
 use std::num::wrapping_add_u64;
 
 // The numbers of a row: the first `count` of `values`, and in `small` what 32 bits hold of them. `inside` is true behind a digit.
-#[derive(Drop)]
+#[derive(Clone, Copy)]
 pub(crate) struct Row {
     pub values: [u64; 48],
     pub small: [u32; 48],
