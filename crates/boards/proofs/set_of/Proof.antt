@@ -40,7 +40,7 @@ add-result-3 c = search rules
 
 returns : tie.Need-returns
 unfolding set_of
-returns c = rw (c.before.before.before.before.before.before.weight.ensures.0, c.before.before.before.before.weight2.ensures.0, c.before.before.weight3.ensures.0, c.weight4.ensures.0, c.before.before.before.before.before.before.before.is_through_lem.ensures, c.before.before.before.before.before.is-through2.ensures, c.before.before.before.is-through3.ensures, c.before.is-through4.ensures) refl
+returns c = rw (c.before.before.before.before.before.before.weight.ensures.0, c.before.before.before.before.weight2.ensures.0, c.before.before.weight3.ensures.0, c.weight4.ensures.0, c.before.before.before.before.before.before.before.is-through.ensures, c.before.before.before.before.before.is-through2.ensures, c.before.before.before.is-through3.ensures, c.before.is-through4.ensures) refl
 
 pub set_of_spec : {M : Type 1} → statement M
 set_of_spec = tie.close (tie.spec is-through-requires weight-requires is-through-requires-2 weight-requires-2 is-through-requires-3 weight-requires-3 is-through-requires-4 weight-requires-4 add_result add_result_2 add-result-3 returns)

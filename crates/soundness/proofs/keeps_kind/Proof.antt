@@ -13,11 +13,11 @@ none-modified-requires c κs = search rules
 
 returns : tie.Need-returns
 unfolding keeps_kind
-returns c = rw (sym c.before.before.is_through_lem.ensures ∙ c.before.if1.true, c.none_modified_lem.ensures) refl
+returns c = rw (sym c.before.before.is-through.ensures ∙ c.before.if1.true, c.none-modified.ensures) refl
 
 returns_2 : tie.Need-returns-2
 unfolding keeps_kind
-returns_2 c = rw (sym c.before.is_through_lem.ensures ∙ c.if1.false) refl
+returns_2 c = rw (sym c.before.is-through.ensures ∙ c.if1.false) refl
 
 pub keeps_kind_spec : {M : Type 1} → statement M
 keeps_kind_spec = tie.close (tie.spec is-through-requires none-modified-requires returns returns_2)
