@@ -1,5 +1,5 @@
 -- Laws of `read_groups`, for any number of groups and any limit of the last: what each byte does, and groups that are read one after the other.
-use Prim.Native.Nat.{ℕ, zero, suc, ◌+◌, ◌*◌, ◌%◌, ◌-◌, ◌≤◌, ◌<◌}
+use Prim.Native.Nat.{ℕ, zero, suc, ◌+◌, ◌*◌, ◌%◌, ◌≤◌, ◌<◌}
 use native.Mathlib.Omega.{arith}
 use native.Mathlib.Nat.{mul-suc, mul_comm, mul_assoc, mul-add, mul-le-mul_left}
 use mathlib.Core.Path.{◌≡◌, refl, ap, ◌∙◌}
