@@ -1,6 +1,6 @@
 -- The sets of holders that an access leaves, from those that it found: the unit's weight comes to the set of one block and goes from that of another. The
 -- proofs show that these are the sets that the slots have then. Sets h, unit u, block b, and x, what the unit's slot was.
-use Rattle.std.specs.Prelude.{ℕ, ◌+◌, ◌-◌, ◌%◌, Bool, cond, List, [], ◌∷◌, set, slice_index, slice_set}
+use Rattle.std.specs.Prelude.{ℕ, ◌+◌, ◌-◌, ◌%◌, Bool, cond, List, [], ◌∷◌, slice_index, slice_set}
 use Rattle.coherence.specs.declared.Slot.{Slot}
 use Rattle.slots.specs.Directory.{block_or}
 

@@ -2,7 +2,7 @@
 // found. Past the last block one reads as empty, and setting one changes nothing.
 #![tactic(auto)]
 
-ghost use Rattle.std.specs.Prelude.{◌≡◌, ◌-◌, set, slice_index, slice_set};
+ghost use Rattle.std.specs.Prelude.{◌≡◌, ◌-◌, slice_index, slice_set};
 ghost use Rattle.holder_sets.specs.Sets.{weight_of, vacated, fetched_sets, claimed_sets, flushed_sets, through_sets};
 
 use coherence::Slot;
