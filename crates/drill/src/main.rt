@@ -3,14 +3,15 @@
 
 use drill_text::{TEXT_MOST, drill_input};
 use input::read_input;
-use libc::{STDIN_FILENO, STDOUT_FILENO};
+use std::io;
+use std::io::Write;
 
-fn main() {
+fn main(rt: HostRuntime) -> io::Result<()> {
     let mut tape = [0u8; 65537];
-    let input = read_input(STDIN_FILENO, &mut tape);
+    let input = read_input(&mut rt.stdin(), &mut tape);
     let size = input.size;
     let mut text = [0u8; TEXT_MOST];
     let drilled = drill_input(input.failed, &tape[..size], &mut text);
     let count = drilled.count;
-    io::write_all(STDOUT_FILENO, &text[..count]);
+    rt.stdout().write_all(&text[..count])
 }

@@ -6,10 +6,12 @@ mod print;
 mod readings;
 mod writings;
 
-fn main() {
-    readings::run_readings();
-    readings::run_bits();
-    writings::run_writings();
-    writings::run_agents();
-    writings::run_pairs();
+use std::io;
+
+fn main(rt: HostRuntime) -> io::Result<()> {
+    readings::run_readings(&rt)?;
+    readings::run_bits(&rt)?;
+    writings::run_writings(&rt)?;
+    writings::run_agents(&rt)?;
+    writings::run_pairs(&rt)
 }

@@ -1,48 +1,47 @@
 // Address cycles and what is read of them, on standard output.
 use jbus::{AddressCycle, Device, InterruptRead};
-use libc::STDOUT_FILENO;
+use std::io;
+use std::io::Write;
 
-pub(crate) fn word(text: &[u8]) {
-    io::write_all(STDOUT_FILENO, text);
+pub(crate) fn word(to: &impl Print, text: &[u8]) -> io::Result<()> {
+    io::writer(to).write_all(text)
 }
 
 // A word, a number, and nothing after it.
-pub(crate) fn number(text: &[u8], n: u64) {
-    io::write_all(STDOUT_FILENO, text);
-    io::print_decimal(STDOUT_FILENO, n);
+pub(crate) fn number(to: &impl Print, text: &[u8], n: u64) -> io::Result<()> {
+    word(to, text)?;
+    print!(to; "{n}")
 }
 
 // Both halves, in hexadecimal.
-pub(crate) fn halves(cycle: AddressCycle) {
-    io::write_all(STDOUT_FILENO, b" ");
-    io::print_hex(STDOUT_FILENO, cycle.upper, 16);
-    io::write_all(STDOUT_FILENO, b" ");
-    io::print_hex(STDOUT_FILENO, cycle.lower, 16);
+pub(crate) fn halves(to: &impl Print, cycle: AddressCycle) -> io::Result<()> {
+    print!(to; " {:016x}", cycle.upper)?;
+    print!(to; " {:016x}", cycle.lower)
 }
 
-fn name(device: Device) {
+fn name(to: &impl Print, device: Device) -> io::Result<()> {
     match device {
-        Device::Processor => word(b" processor"),
-        Device::NotSupported => word(b" not supported"),
-        Device::Illegal => word(b" illegal"),
-        Device::Bridge0 => word(b" bridge 0"),
-        Device::Bridge1 => word(b" bridge 1"),
+        Device::Processor => word(to, b" processor"),
+        Device::NotSupported => word(to, b" not supported"),
+        Device::Illegal => word(to, b" illegal"),
+        Device::Bridge0 => word(to, b" bridge 0"),
+        Device::Bridge1 => word(to, b" bridge 1"),
     }
 }
 
 // A cycle, and what is read of it.
-pub(crate) fn reading(cycle: AddressCycle) {
-    word(b"read");
-    halves(cycle);
+pub(crate) fn reading(to: &impl Print, cycle: AddressCycle) -> io::Result<()> {
+    word(to, b"read")?;
+    halves(to, cycle)?;
     let answer = jbus::read_interrupt(cycle);
     match answer {
         InterruptRead::Interrupt(i) => {
-            number(b": target ", i.target as u64);
-            number(b" agent ", i.agent as u64);
+            number(to, b": target ", i.target as u64)?;
+            number(to, b" agent ", i.agent as u64)?;
             let device = i.device;
-            name(device)
+            name(to, device)?
         }
-        InterruptRead::Refused(n) => number(b": refusal ", n as u64),
+        InterruptRead::Refused(n) => number(to, b": refusal ", n as u64)?,
     }
-    word(b"\n");
+    word(to, b"\n")
 }

@@ -1,6 +1,7 @@
 // Address cycles that are read: what is accepted, each refusal, and the order of the refusals.
 use crate::print::{number, reading, word};
 use jbus::AddressCycle;
+use std::io;
 
 // Target 3 from agent 28.
 const EXAMPLE: u64 = 0x0000A03E00000000;
@@ -52,40 +53,54 @@ const READINGS: [[u64; 2]; 35] = [
     [0, 0],
 ];
 
-fn row(values: [u64; 2]) {
-    reading(AddressCycle {
-        upper: values[0],
-        lower: values[0] ^ values[1],
-    });
+fn row(to: &impl Print, values: [u64; 2]) -> io::Result<()> {
+    reading(
+        to,
+        AddressCycle {
+            upper: values[0],
+            lower: values[0] ^ values[1],
+        },
+    )
 }
 
-pub(crate) fn run_readings() {
+pub(crate) fn run_readings(to: &impl Print) -> io::Result<()> {
     for k in 0..35 {
-        row(READINGS[k]);
+        row(to, READINGS[k])?;
     }
+    Ok(())
 }
 
 // The example with a bit the other way: in both halves, in the upper one, and in the lower one.
-fn bit(k: u32, weight: u64) {
-    number(b"bit ", k as u64);
-    word(b"\n");
+fn bit(to: &impl Print, k: u32, weight: u64) -> io::Result<()> {
+    number(to, b"bit ", k as u64)?;
+    word(to, b"\n")?;
     let other = EXAMPLE ^ weight;
-    reading(AddressCycle {
-        upper: other,
-        lower: other,
-    });
-    reading(AddressCycle {
-        upper: other,
-        lower: EXAMPLE,
-    });
-    reading(AddressCycle {
-        upper: EXAMPLE,
-        lower: other,
-    });
+    reading(
+        to,
+        AddressCycle {
+            upper: other,
+            lower: other,
+        },
+    )?;
+    reading(
+        to,
+        AddressCycle {
+            upper: other,
+            lower: EXAMPLE,
+        },
+    )?;
+    reading(
+        to,
+        AddressCycle {
+            upper: EXAMPLE,
+            lower: other,
+        },
+    )
 }
 
-pub(crate) fn run_bits() {
+pub(crate) fn run_bits(to: &impl Print) -> io::Result<()> {
     for k in 0..64 {
-        bit(k, 1 << k);
+        bit(to, k, 1 << k)?;
     }
+    Ok(())
 }

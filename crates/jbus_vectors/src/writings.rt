@@ -3,6 +3,7 @@ ghost use Rattle.std.specs.Prelude.{◌≤◌};
 
 use crate::print::{halves, number, reading, word};
 use jbus::{CycleWritten, InterruptRead};
+use std::io;
 
 // The target and the agent.
 const WRITINGS: [[u32; 2]; 21] = [
@@ -31,39 +32,41 @@ const WRITINGS: [[u32; 2]; 21] = [
     [4294967295, 4294967295],
 ];
 
-fn writing(target: u32, agent: u32) {
-    number(b"write ", target as u64);
-    number(b" ", agent as u64);
-    word(b":");
+fn writing(to: &impl Print, target: u32, agent: u32) -> io::Result<()> {
+    number(to, b"write ", target as u64)?;
+    number(to, b" ", agent as u64)?;
+    word(to, b":")?;
     let answer = jbus::write_interrupt(target, agent);
     match answer {
         CycleWritten::Cycle(cycle) => {
-            halves(cycle);
-            word(b"\n");
-            reading(cycle)
+            halves(to, cycle)?;
+            word(to, b"\n")?;
+            reading(to, cycle)
         }
         CycleWritten::Refused(n) => {
-            number(b" refusal ", n as u64);
-            word(b"\n")
+            number(to, b" refusal ", n as u64)?;
+            word(to, b"\n")
         }
     }
 }
 
-fn row(values: [u32; 2]) {
-    writing(values[0], values[1]);
+fn row(to: &impl Print, values: [u32; 2]) -> io::Result<()> {
+    writing(to, values[0], values[1])
 }
 
-pub(crate) fn run_writings() {
+pub(crate) fn run_writings(to: &impl Print) -> io::Result<()> {
     for k in 0..21 {
-        row(WRITINGS[k]);
+        row(to, WRITINGS[k])?;
     }
+    Ok(())
 }
 
 // Each agent of Table 5-3.
-pub(crate) fn run_agents() {
+pub(crate) fn run_agents(to: &impl Print) -> io::Result<()> {
     for agent in 0..32 {
-        writing(3, agent);
+        writing(to, 3, agent)?;
     }
+    Ok(())
 }
 
 // 1 where a pair is written and read as the same pair, else 0.
@@ -84,11 +87,11 @@ fn comes_back(target: u32, agent: u32) -> u32
 }
 
 // Every target with every agent.
-pub(crate) fn run_pairs() {
+pub(crate) fn run_pairs(to: &impl Print) -> io::Result<()> {
     let mut n = 0;
     for k in 0..1024 {
         n = n + comes_back(k / 32, k % 32);
     }
-    number(b"pairs that come back ", n as u64);
-    word(b"\n");
+    number(to, b"pairs that come back ", n as u64)?;
+    word(to, b"\n")
 }

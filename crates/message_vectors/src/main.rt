@@ -7,7 +7,9 @@ mod operations;
 mod print;
 mod store;
 
-fn main() {
-    messages::run_messages();
-    operations::run_operations();
+use std::io;
+
+fn main(rt: HostRuntime) -> io::Result<()> {
+    messages::run_messages(&rt)?;
+    operations::run_operations(&rt)
 }

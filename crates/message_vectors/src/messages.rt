@@ -3,6 +3,7 @@ use crate::operations::operation;
 use crate::print::{name, number, source, word};
 use crate::store::{OTHER, fill, missing, show_changed};
 use message_rules::{Receiver, SequenceFound};
+use std::io;
 
 // A row for each message: the sender, the AID, and how many bytes.
 const MESSAGES: [[u16; 3]; 16] = [
@@ -30,72 +31,83 @@ const MESSAGES: [[u16; 3]; 16] = [
 
 // Operation `k` of the message. Gives back the receiver for the next.
 fn give(
+    to: &impl Print,
     receiver: Receiver,
     store: &mut [u8],
     whole: &[u8],
     sender: u8,
     aid: u16,
     k: usize,
-) -> Receiver {
+) -> io::Result<Receiver> {
     let SequenceFound::Known(sequence) = message::sequence_at(whole, sender, aid, k) else {
-        return receiver;
+        return Ok(receiver);
     };
-    number(b"operation ", k as u64);
+    number(to, b"operation ", k as u64)?;
     let part = message::part_at(whole, sender, aid, k);
-    let next = operation(receiver, store, sequence, sender, aid, part);
-    word(b"\n");
-    next
+    let next = operation(to, receiver, store, sequence, sender, aid, part)?;
+    word(to, b"\n")?;
+    Ok(next)
 }
 
-fn give_all(store: &mut [u8], whole: &[u8], sender: u8, aid: u16, count: usize) {
+fn give_all(
+    to: &impl Print,
+    store: &mut [u8],
+    whole: &[u8],
+    sender: u8,
+    aid: u16,
+    count: usize,
+) -> io::Result<()> {
     let mut receiver = Receiver::Idle;
     for k in 0..count {
-        receiver = give(receiver, store, whole, sender, aid, k);
+        receiver = give(to, receiver, store, whole, sender, aid, k)?;
     }
+    Ok(())
 }
 
 // What is found at an index past the last operation, and how many bytes.
-fn past(whole: &[u8], sender: u8, aid: u16, k: usize) {
-    number(b" past ", k as u64);
+fn past(to: &impl Print, whole: &[u8], sender: u8, aid: u16, k: usize) -> io::Result<()> {
+    number(to, b" past ", k as u64)?;
     match message::sequence_at(whole, sender, aid, k) {
-        SequenceFound::Known(sequence) => name(sequence),
-        SequenceFound::Nothing => word(b" nothing"),
+        SequenceFound::Known(sequence) => name(to, sequence)?,
+        SequenceFound::Nothing => word(to, b" nothing")?,
     }
     let part = message::part_at(whole, sender, aid, k);
-    number(b" ", part.len() as u64);
+    number(to, b" ", part.len() as u64)
 }
 
-fn send(whole: &[u8], sender: u8, aid: u16) {
+fn send(to: &impl Print, whole: &[u8], sender: u8, aid: u16) -> io::Result<()> {
     let mut store = [OTHER; 4096];
-    word(b"message");
-    source(sender, aid, whole.len());
+    word(to, b"message")?;
+    source(to, sender, aid, whole.len())?;
     let made = message::divide(whole, sender, aid);
-    number(b": refusal ", made.refusal as u64);
+    number(to, b": refusal ", made.refusal as u64)?;
     let count = made.operations;
-    number(b" operations ", count as u64);
-    word(b"\n");
-    give_all(&mut store, whole, sender, aid, count);
-    word(b"store");
-    show_changed(&store);
+    number(to, b" operations ", count as u64)?;
+    word(to, b"\n")?;
+    give_all(to, &mut store, whole, sender, aid, count)?;
+    word(to, b"store")?;
+    show_changed(to, &store)?;
     if whole.len() <= 4096 {
-        number(b" missing ", missing(&store, whole) as u64);
+        number(to, b" missing ", missing(&store, whole) as u64)?;
     }
-    past(whole, sender, aid, count);
-    past(whole, sender, aid, 18446744073709551615);
-    word(b"\n");
+    past(to, whole, sender, aid, count)?;
+    past(to, whole, sender, aid, 18446744073709551615)?;
+    word(to, b"\n")
 }
 
-fn row(values: [u16; 3]) {
+fn row(to: &impl Print, values: [u16; 3]) -> io::Result<()> {
     let mut whole = [0u8; 4097];
     fill(&mut whole);
     let length = values[2] as usize;
     if length <= 4097 {
-        send(&whole[0..length], (values[0] % 256) as u8, values[1]);
+        send(to, &whole[0..length], (values[0] % 256) as u8, values[1])?;
     }
+    Ok(())
 }
 
-pub(crate) fn run_messages() {
+pub(crate) fn run_messages(to: &impl Print) -> io::Result<()> {
     for k in 0..16 {
-        row(MESSAGES[k]);
+        row(to, MESSAGES[k])?;
     }
+    Ok(())
 }

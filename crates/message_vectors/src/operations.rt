@@ -2,6 +2,7 @@
 use crate::print::{answer, name, number, source, state, word};
 use crate::store::{OTHER, fill, show_changed};
 use message_rules::{Receiver, Sequence};
+use std::io;
 
 // A number for each operation, by its digits: the receiver (0 idle, 1 pending) with its sender, AID and count; the store's size (5 to 7: 4,095 to
 // 4,097 bytes); the sequence (0 single, 1 first, 2 middle, 3 last), sender, AID and length of the operation.
@@ -88,18 +89,19 @@ const OPERATIONS: [u64; 58] = [
 
 // One operation: what it is, then the answer. Gives back the receiver for the next.
 pub(crate) fn operation(
+    to: &impl Print,
     receiver: Receiver,
     store: &mut [u8],
     sequence: Sequence,
     sender: u8,
     aid: u16,
     bytes: &[u8],
-) -> Receiver {
-    name(sequence);
-    source(sender, aid, bytes.len());
+) -> io::Result<Receiver> {
+    name(to, sequence)?;
+    source(to, sender, aid, bytes.len())?;
     let receipt = message::receive(receiver, store, sequence, sender, aid, bytes);
-    answer(receipt);
-    receipt.receiver
+    answer(to, receipt)?;
+    Ok(receipt.receiver)
 }
 
 fn receiver_of(digits: u64) -> Receiver {
@@ -123,25 +125,26 @@ fn sequence_of(number: u64) -> Sequence {
     }
 }
 
-fn run(digits: u64, store: &mut [u8], bytes: &[u8]) {
+fn run(to: &impl Print, digits: u64, store: &mut [u8], bytes: &[u8]) -> io::Result<()> {
     let receiver = receiver_of(digits / 1000000000);
-    word(b"receiver");
-    state(receiver);
-    number(b" store ", store.len() as u64);
+    word(to, b"receiver")?;
+    state(to, receiver)?;
+    number(to, b" store ", store.len() as u64)?;
     let sequence = sequence_of(digits / 10000000 % 10);
     operation(
+        to,
         receiver,
         store,
         sequence,
         (digits / 1000000 % 10) as u8,
         (digits / 1000 % 1000) as u16,
         bytes,
-    );
-    show_changed(store);
-    word(b"\n");
+    )?;
+    show_changed(to, store)?;
+    word(to, b"\n")
 }
 
-fn row(digits: u64) {
+fn row(to: &impl Print, digits: u64) -> io::Result<()> {
     let mut bytes = [0u8; 257];
     fill(&mut bytes);
     let mut store = [OTHER; 4097];
@@ -149,13 +152,15 @@ fn row(digits: u64) {
     let length = (digits % 1000) as usize;
     if size <= 4097 {
         if length <= 257 {
-            run(digits, &mut store[0..size], &bytes[0..length]);
+            run(to, digits, &mut store[0..size], &bytes[0..length])?;
         }
     }
+    Ok(())
 }
 
-pub(crate) fn run_operations() {
+pub(crate) fn run_operations(to: &impl Print) -> io::Result<()> {
     for k in 0..58 {
-        row(OPERATIONS[k]);
+        row(to, OPERATIONS[k])?;
     }
+    Ok(())
 }

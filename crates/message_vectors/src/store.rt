@@ -2,6 +2,7 @@
 ghost use Rattle.std.specs.Prelude.{◌≤◌, length};
 
 use crate::print::number;
+use std::io;
 
 // Every byte of a store before its first operation; no message has such a byte.
 pub(crate) const OTHER: u8 = 255;
@@ -14,7 +15,7 @@ pub(crate) fn fill(space: &mut [u8]) {
 }
 
 // How many bytes of the store are changed, and the place behind the last of them.
-pub(crate) fn show_changed(store: &[u8]) {
+pub(crate) fn show_changed(to: &impl Print, store: &[u8]) -> io::Result<()> {
     let mut n: usize = 0;
     let mut end = 0;
     for k in 0..store.len() {
@@ -23,8 +24,8 @@ pub(crate) fn show_changed(store: &[u8]) {
             end = k + 1;
         }
     }
-    number(b" changed ", n as u64);
-    number(b" up to ", end as u64);
+    number(to, b" changed ", n as u64)?;
+    number(to, b" up to ", end as u64)
 }
 
 // How many bytes of a message do not stand in the store, the message's start at the store's.

@@ -4,6 +4,7 @@
 
 use coherence::{Answer, Directory};
 use slots::drill_settings;
+use std::io;
 
 // The next number of a fixed sequence.
 fn step(x: u32) -> u32 {
@@ -38,9 +39,9 @@ fn run(memory: &mut [u8], cache: &mut [u8]) -> u32 {
     sum
 }
 
-fn main() {
+fn main(rt: HostRuntime) -> io::Result<()> {
     let mut memory = [0u8; 2048];
     let mut cache = [0u8; 2048];
     let sum = run(&mut memory, &mut cache);
-    io::print_decimal(1, sum as u64);
+    print!(rt; "{sum}")
 }

@@ -1,28 +1,29 @@
 // Rows of the bus and of its handler. Each answer begins with the number of the refusal.
 use crate::text::{Row, show_all};
+use std::io;
 
 // A word, and a set of parity bits to check it with: its parity, the wrong bytes, how many.
-pub(crate) fn parity(given: Row) {
+pub(crate) fn parity(to: &impl Print, given: Row) -> io::Result<()> {
     let v = given.values;
     let n = given.small;
     let data = v[0];
     let mut wrong = 0u32;
     let mut count = 0u32;
     let refusal = capi_bus::trainer_check(data, n[1], &mut wrong, &mut count);
-    show_all(&[refusal, capi_bus::trainer_parity(data), wrong, count]);
+    show_all(to, &[refusal, capi_bus::trainer_parity(data), wrong, count])
 }
 
 // RA and BCT: the words, the set of positions.
-pub(crate) fn lanes(given: Row) {
+pub(crate) fn lanes(to: &impl Print, given: Row) -> io::Result<()> {
     let n = given.small;
     let mut words = 0u32;
     let mut positions = 0u32;
     let refusal = capi_bus::trainer_lanes(n[0], n[1], &mut words, &mut positions);
-    show_all(&[refusal, words, positions]);
+    show_all(to, &[refusal, words, positions])
 }
 
 // The cycles, the cycle, and locked or not: BS, BUR, ET, ET at the request.
-pub(crate) fn transfer(given: Row) {
+pub(crate) fn transfer(to: &impl Print, given: Row) -> io::Result<()> {
     let n = given.small;
     let mut bs = 0u32;
     let mut bur = 0u32;
@@ -37,48 +38,48 @@ pub(crate) fn transfer(given: Row) {
         &mut et,
         &mut request,
     );
-    show_all(&[refusal, bs, bur, et, request]);
+    show_all(to, &[refusal, bs, bur, et, request])
 }
 
 // A code: its class, the carried number, whether a bus error is reported.
-pub(crate) fn answer(given: Row) {
+pub(crate) fn answer(to: &impl Print, given: Row) -> io::Result<()> {
     let n = given.small;
     let mut class = 0u32;
     let mut carried = 0u32;
     let mut error = 0u32;
     let refusal = capi_bus::trainer_class(n[0], &mut class, &mut carried, &mut error);
-    show_all(&[refusal, class, carried, error]);
+    show_all(to, &[refusal, class, carried, error])
 }
 
 // A class and the number that it carries: the code.
-pub(crate) fn class(given: Row) {
+pub(crate) fn class(to: &impl Print, given: Row) -> io::Result<()> {
     let n = given.small;
     let mut code = 0u32;
     let refusal = capi_bus::trainer_code(n[0], n[1], &mut code);
-    show_all(&[refusal, code]);
+    show_all(to, &[refusal, code])
 }
 
-fn fresh(state: &mut [u32]) {
-    show_all(&[capi_handler::trainer_handler(state)]);
-    show_all(state);
+fn fresh(to: &impl Print, state: &mut [u32]) -> io::Result<()> {
+    show_all(to, &[capi_handler::trainer_handler(state)])?;
+    show_all(to, state)
 }
 
-fn arbitrate(state: &mut [u32], high: u32, low: u32, lck: u32) {
+fn arbitrate(to: &impl Print, state: &mut [u32], high: u32, low: u32, lck: u32) -> io::Result<()> {
     let mut grant = 0u32;
     let mut unit = 0u32;
     let refusal = capi_handler::trainer_arbitrate(state, high, low, lck, &mut grant, &mut unit);
-    show_all(&[refusal, grant, unit]);
-    show_all(state);
+    show_all(to, &[refusal, grant, unit])?;
+    show_all(to, state)
 }
 
 // Last high, last low, owner (8: none), RQH, RQL, LCK: the grant (0 nobody, 1 high, 2 low), the unit, and the state after it. With no number, the
 // state of a fresh handler.
-pub(crate) fn handler(given: Row) {
+pub(crate) fn handler(to: &impl Print, given: Row) -> io::Result<()> {
     let n = given.small;
     let mut state = [n[0], n[1], n[2]];
     if given.count == 0 {
-        fresh(&mut state);
+        fresh(to, &mut state)
     } else {
-        arbitrate(&mut state, n[3], n[4], n[5]);
+        arbitrate(to, &mut state, n[3], n[4], n[5])
     }
 }

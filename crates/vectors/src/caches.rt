@@ -1,6 +1,7 @@
 // Rows of the cache machine.
 use crate::text::{Row, show, show_all, show_byte, word};
 use coherence::Call;
+use std::io;
 
 // What stands at a place before a call: in memory the number of the block, in the cache store 128 and the number of the slot; in the directory 0.
 fn filling(base: u8, place: usize) -> u8 {
@@ -31,29 +32,30 @@ fn directory_of(v: [u64; 48]) -> [u8; 194] {
 }
 
 // Where equal bytes that are not the filling begin, their place and the byte; where such bytes end, the place after them.
-fn mark(last: u64, place: usize, found: u8, filling: u8) -> u64 {
+fn mark(to: &impl Print, last: u64, place: usize, found: u8, filling: u8) -> io::Result<u64> {
     if found == filling {
         if last != 256 {
-            word(b" to");
-            show(place as u64);
+            word(to, b" to")?;
+            show(to, place as u64)?;
         }
-        return 256;
+        return Ok(256);
     }
     if last != found as u64 {
-        word(b" at");
-        show(place as u64);
-        word(b":");
-        show_byte(found);
+        word(to, b" at")?;
+        show(to, place as u64)?;
+        word(to, b":")?;
+        show_byte(to, found)?;
     }
-    found as u64
+    Ok(found as u64)
 }
 
-fn changed(space: &[u8], base: u8) {
-    word(b";");
+fn changed(to: &impl Print, space: &[u8], base: u8) -> io::Result<()> {
+    word(to, b";")?;
     let mut last = 256;
     for i in 0..space.len() {
-        last = mark(last, i, space[i], filling(base, i));
+        last = mark(to, last, i, space[i], filling(base, i))?;
     }
+    Ok(())
 }
 
 fn call_of(n: [u32; 48]) -> Call {
@@ -94,21 +96,33 @@ fn access(
     0
 }
 
-fn show_changed<'a>(directory: &'a [u8], memory: &'a [u8], cache: &'a [u8]) {
-    changed(directory, 255);
-    changed(memory, 0);
-    changed(cache, 128);
+fn show_changed<'a>(
+    to: &impl Print,
+    directory: &'a [u8],
+    memory: &'a [u8],
+    cache: &'a [u8],
+) -> io::Result<()> {
+    changed(to, directory, 255)?;
+    changed(to, memory, 0)?;
+    changed(to, cache, 128)
 }
 
 // The refusal and the answer; then of the directory, of memory and of the cache store all that is not the filling.
-fn run(directory: &mut [u8], memory: &mut [u8], cache: &mut [u8], answer: &mut [u32], call: Call) {
-    show(access(directory, memory, cache, answer, call) as u64);
-    show_all(answer);
-    show_changed(directory, memory, cache);
+fn run(
+    to: &impl Print,
+    directory: &mut [u8],
+    memory: &mut [u8],
+    cache: &mut [u8],
+    answer: &mut [u32],
+    call: Call,
+) -> io::Result<()> {
+    show(to, access(directory, memory, cache, answer, call) as u64)?;
+    show_all(to, answer)?;
+    show_changed(to, directory, memory, cache)
 }
 
 // The sizes of both stores, the address or block, the call (0 load, 1 store, 2 flush), the unit, the value, the directory.
-pub(crate) fn machine(given: Row) {
+pub(crate) fn machine(to: &impl Print, given: Row) -> io::Result<()> {
     let n = given.small;
     let v = given.values;
     let mut directory = directory_of(v);
@@ -118,16 +132,17 @@ pub(crate) fn machine(given: Row) {
     let m = (n[0] % 2050) as usize;
     let c = (n[1] % 2050) as usize;
     run(
+        to,
         &mut directory,
         &mut memory[0..m],
         &mut cache[0..c],
         &mut answer,
         call_of(n),
-    );
+    )
 }
 
 // The sizes of both stores, the block, three other numbers, the directory: the store (0 memory, 1 cache store) and the place of the newest bytes.
-pub(crate) fn newest(given: Row) {
+pub(crate) fn newest(to: &impl Print, given: Row) -> io::Result<()> {
     let n = given.small;
     let v = given.values;
     let directory = directory_of(v);
@@ -145,29 +160,39 @@ pub(crate) fn newest(given: Row) {
         &mut store,
         &mut offset,
     );
-    show_all(&[refusal, store, offset]);
+    show_all(to, &[refusal, store, offset])
 }
 
 // Two numbers, the block, three numbers, the directory: the set of the units that hold the block, and how many they are.
-pub(crate) fn units(given: Row) {
+pub(crate) fn units(to: &impl Print, given: Row) -> io::Result<()> {
     let n = given.small;
     let v = given.values;
     let directory = directory_of(v);
     let mut set = 0u32;
     let mut count = 0u32;
     let refusal = capi_holders::trainer_holders(&directory, n[2], &mut set, &mut count);
-    show_all(&[refusal, set, count]);
+    show_all(to, &[refusal, set, count])
 }
 
-fn cold(directory: &mut [u8], memory: &[u8], cache: &mut [u8], write_through: u32, steal: u32) {
-    show(capi_start::trainer_cold_start(memory, cache, write_through, steal, directory) as u64);
-    changed(directory, 255);
-    changed(cache, 128);
+fn cold(
+    to: &impl Print,
+    directory: &mut [u8],
+    memory: &[u8],
+    cache: &mut [u8],
+    write_through: u32,
+    steal: u32,
+) -> io::Result<()> {
+    show(
+        to,
+        capi_start::trainer_cold_start(memory, cache, write_through, steal, directory) as u64,
+    )?;
+    changed(to, directory, 255)?;
+    changed(to, cache, 128)
 }
 
 // The sizes of both stores, the set of write-through boards, steal, two other numbers, the directory: what a cold start leaves of the directory, and what it
 // changes in the cache store.
-pub(crate) fn start(given: Row) {
+pub(crate) fn start(to: &impl Print, given: Row) -> io::Result<()> {
     let n = given.small;
     let v = given.values;
     let mut directory = directory_of(v);
@@ -175,5 +200,12 @@ pub(crate) fn start(given: Row) {
     let mut cache = filled(128);
     let m = (n[0] % 2050) as usize;
     let c = (n[1] % 2050) as usize;
-    cold(&mut directory, &memory[0..m], &mut cache[0..c], n[2], n[3]);
+    cold(
+        to,
+        &mut directory,
+        &memory[0..m],
+        &mut cache[0..c],
+        n[2],
+        n[3],
+    )
 }

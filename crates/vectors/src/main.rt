@@ -7,55 +7,58 @@ mod caches;
 mod tapes;
 mod text;
 
+use input::read_input;
+use std::io;
 use text::{Row, parse, word};
 
 // The answer to a row, which the first letter of its name chooses.
-fn answer(letter: u8, given: Row) {
+fn answer(to: &impl Print, letter: u8, given: Row) -> io::Result<()> {
     match letter {
-        b'p' => bus::parity(given),
-        b'l' => bus::lanes(given),
-        b't' => bus::transfer(given),
-        b'a' => bus::answer(given),
-        b'c' => bus::class(given),
-        b'h' => bus::handler(given),
-        b'w' => tapes::writing(given),
-        b'm' => caches::machine(given),
-        b'n' => caches::newest(given),
-        b's' => caches::start(given),
-        b'u' => caches::units(given),
-        _ => tapes::reading(letter, given),
+        b'p' => bus::parity(to, given),
+        b'l' => bus::lanes(to, given),
+        b't' => bus::transfer(to, given),
+        b'a' => bus::answer(to, given),
+        b'c' => bus::class(to, given),
+        b'h' => bus::handler(to, given),
+        b'w' => tapes::writing(to, given),
+        b'm' => caches::machine(to, given),
+        b'n' => caches::newest(to, given),
+        b's' => caches::start(to, given),
+        b'u' => caches::units(to, given),
+        _ => tapes::reading(to, letter, given),
     }
 }
 
 // The line from `start` to `end`, if it ends there. Gives back the start of the next.
-fn line(text: &[u8], start: usize, end: usize) -> usize {
+fn line(to: &impl Print, text: &[u8], start: usize, end: usize) -> io::Result<usize> {
     if end >= text.len() {
-        return start;
+        return Ok(start);
     }
     if text[end] != 10 {
-        return start;
+        return Ok(start);
     }
     if start < end {
         let letter = text[start];
-        word(&text[start..end]);
+        word(to, &text[start..end])?;
         if letter != 34 {
-            word(b":");
-            answer(letter, parse(&text[start..end], letter));
+            word(to, b":")?;
+            answer(to, letter, parse(&text[start..end], letter))?;
         }
     }
-    word(b"\n");
-    end + 1
+    word(to, b"\n")?;
+    Ok(end + 1)
 }
 
-fn lines(text: &[u8]) {
+fn lines(to: &impl Print, text: &[u8]) -> io::Result<()> {
     let mut start = 0;
     for end in 0..text.len() {
-        start = line(text, start, end);
+        start = line(to, text, start, end)?;
     }
+    Ok(())
 }
 
-fn main() {
+fn main(rt: HostRuntime) -> io::Result<()> {
     let mut text = [0u8; 131072];
-    let count = io::read_full(libc::STDIN_FILENO, &mut text);
-    lines(&text[..count]);
+    let count = read_input(&mut rt.stdin(), &mut text).size;
+    lines(&rt, &text[..count])
 }

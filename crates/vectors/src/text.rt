@@ -1,5 +1,6 @@
 // The numbers of a row, and the numbers and bytes of an answer.
-use libc::STDOUT_FILENO;
+use std::io;
+use std::io::Write;
 use std::num::wrapping_add_u64;
 
 // The numbers of a row: the first `count` of `values`, and in `small` what 32 bits hold of them. `inside` is true behind a digit.
@@ -74,38 +75,39 @@ pub(crate) fn parse(line: &[u8], letter: u8) -> Row {
     step(found, 16, hex)
 }
 
-pub(crate) fn word(text: &[u8]) {
-    io::write_all(STDOUT_FILENO, text);
+pub(crate) fn word(to: &impl Print, text: &[u8]) -> io::Result<()> {
+    io::writer(to).write_all(text)
 }
 
-pub(crate) fn show(n: u64) {
-    io::write_all(STDOUT_FILENO, b" ");
-    io::print_decimal(STDOUT_FILENO, n);
+pub(crate) fn show(to: &impl Print, n: u64) -> io::Result<()> {
+    print!(to; " {n}")
 }
 
-pub(crate) fn show_byte(b: u8) {
-    io::write_all(STDOUT_FILENO, b" ");
-    io::print_hex(STDOUT_FILENO, b as u64, 2);
+pub(crate) fn show_byte(to: &impl Print, b: u8) -> io::Result<()> {
+    print!(to; " {b:02x}")
 }
 
-pub(crate) fn show_bytes(bytes: &[u8]) {
+pub(crate) fn show_bytes(to: &impl Print, bytes: &[u8]) -> io::Result<()> {
     for i in 0..bytes.len() {
-        show_byte(bytes[i]);
+        show_byte(to, bytes[i])?;
     }
+    Ok(())
 }
 
 fn wide(n: u32) -> u64 {
     n as u64
 }
 
-pub(crate) fn show_all(numbers: &[u32]) {
+pub(crate) fn show_all(to: &impl Print, numbers: &[u32]) -> io::Result<()> {
     for i in 0..numbers.len() {
-        show(wide(numbers[i]));
+        show(to, wide(numbers[i]))?;
     }
+    Ok(())
 }
 
-pub(crate) fn show_wide(numbers: &[u64]) {
+pub(crate) fn show_wide(to: &impl Print, numbers: &[u64]) -> io::Result<()> {
     for i in 0..numbers.len() {
-        show(numbers[i]);
+        show(to, numbers[i])?;
     }
+    Ok(())
 }
