@@ -138,9 +138,10 @@ module _ (n : ℕ) where
       (λ (l : n < 1). rw (eq-eqb n 0 (omega arith)) (ap length (spell_one (groups - 1) n (omega arith))))
       (le_or_lt 1 n)
 
-  fewer : 0 < n → (count : ℕ) → count < group_count n → Holds count n → ⊥
+  -- above zero, what holds the number has at least the rule's groups
+  enough : 0 < n → (count : ℕ) → Holds count n → group_count n ≤ count
   unfolding Holds spell
-  fewer p count l (gs, size, means) =
+  enough p count (gs, size, means) =
       let (m, s) = spelt (groups - 1) n in
       let e : suc m ≡ group_count n = sym s.long ∙ count_exact in
       let below : n < 2 ^ (7 * count) = rw (means, size) at (meaning_below gs) in
@@ -159,7 +160,7 @@ counts_groups n h =
       no_room = λ space l. rw (e, count_exact n, lt-leb (group_count n) (length space) l);
       exactly = count_exact n;
       means = spelled_meaning (groups - 1) n (omega arith);
-      fewer = fewer n;
+      fewer = λ p count l holds. let e = enough n p count holds in omega arith;
     }
 
 pub size_exact : (ns : List ℕ) → length (spell_all ns) ≡ size_of ns
