@@ -1,13 +1,14 @@
 -- Laws of parity: a word beside its own parity bits has no wrong byte, and one bit the other way, in the word or in the set,
 -- changes the answer in that byte's bit alone.
-use Prim.Native.Nat.{ℕ, zero, suc, ◌+◌, ◌-◌, ◌*◌, ◌/◌, ◌%◌, ◌^◌, ◌≤◌, ◌<◌}
+use Prim.Native.Nat.{ℕ, ◌+◌, ◌-◌, ◌*◌, ◌/◌, ◌%◌, ◌^◌, ◌≤◌, ◌<◌}
 use mathlib.Core.Path.{◌≡◌, refl, sym, ap, ap₂, ◌∙◌}
-use native.Mathlib.Nat.{pow-suc, lt_of_lt_of_le}
+use native.Mathlib.Nat.{lt_of_lt_of_le}
 use native.Mathlib.Omega.{arith}
-use lib.Pow.{pow-add, pow_mono, shl_exact, shr-shr, field, mod-mod-pow}
+use lib.Pow.{pow_mono, shl_exact, shr-shr, field, mod-mod-pow}
 use lib.Count.{ones, ones_step}
 use Rattle.numeric.specs.Bits.{sum_below, bit_at, ones_below, from_bits, flipped}
 use Rattle.bus.specs.Parity.{byte_at, parity_bit, parity_of, wrong_bit, wrong_at, wrong_of, check_of, SevenWrong}
+use Rattle.bus.proofs.ByteLaws.{pow_bytes}
 use Rattle.numeric.proofs.BitsLaws.{ones_count, from_step, from_none, from_lt, sum_same, sum_zero, sum_but, bit_of_zero, bit_from, ones_from, bit_flip, bit_other, from_flip}
 
 -- a byte and its parity bit together have an odd count of ones
@@ -48,18 +49,6 @@ ones_beside byte bit l b =
 pub wrong_of_ones : (byte bit : ℕ) → byte < 256 → bit < 2 → (ones (2 * byte + bit) + 1) % 2 ≡ wrong_bit byte bit
 unfolding wrong_bit
 wrong_of_ones byte bit l b = omega (arith, ones_beside byte bit l b)
-
-pow_bytes : (e : ℕ) → 256 ^ e ≡ 2 ^ (8 * e)
-pow_bytes zero = refl
-pow_bytes (suc e) =
-    pow-suc 256 e ∙ ap (λ (y : ℕ). y * 256) (pow_bytes e) ∙ sym (pow-add 2 (8 * e) 8)
-    ∙ ap (λ (y : ℕ). 2 ^ y) (let z : 8 * e + 8 ≡ 8 * suc e = omega arith in z)
-
-pub byte_of_shift : (word k : ℕ) → word / 2 ^ (56 - 8 * k) % 256 ≡ byte_at k word
-unfolding byte_at
-byte_of_shift word k =
-    let e : 56 - 8 * k ≡ 8 * (7 - k) = omega arith in
-    ap (λ (y : ℕ). word / 2 ^ y % 256) e ∙ ap (λ (y : ℕ). word / y % 256) (sym (pow_bytes (7 - k)))
 
 pub wrong_fits : (word set k : ℕ) → k ≤ 8 → from_bits k (wrong_at word set) < 256
 wrong_fits word set k l = lt_of_lt_of_le (from_lt k (wrong_at word set) (wrong_at_lt word set)) (pow_mono l)
