@@ -17,10 +17,10 @@ use Rattle.coherence.specs.Refusal.{is_address}
 use Rattle.coherence.specs.Calls.{refusal, act, answer}
 use Rattle.coherence.specs.Sentences.{SlotsLoaded, SlotsStored, SlotsThrough, SlotsFlushed, SentencesHold}
 use Rattle.coherence.proofs.SlotLaws.{size, holds_is, is_modified}
-use Rattle.coherence.proofs.HolderLaws.{Sets, kept_same}
+use Rattle.coherence.proofs.HolderLaws.{kept_same}
 use Rattle.coherence.proofs.Rules.{sound_sets_lem}
 use Rattle.coherence.proofs.Sentences.{sentences}
-use Rattle.slots.specs.Directory.{of_slots, expelled_at_once, yielded_directory}
+use Rattle.slots.specs.Directory.{expelled_at_once, yielded_directory}
 use Rattle.slots.proofs.OfSlots.{with, of_expelled}
 use Rattle.orders.specs.Orders.{directory_of}
 use Rattle.holder_sets.specs.Sets.{fetched_sets, claimed_sets, flushed_sets, through_sets}
@@ -28,6 +28,11 @@ use Rattle.holder_sets.proofs.SetLaws.{fetched_told, claimed_told, through_told,
 use Rattle.write_through.specs.Through.{through_directory, through_left}
 use Rattle.machine.proofs.Refusals.{Known, address_of}
 use Rattle.machine.proofs.Calls.{directory_left_lem}
+
+-- a directory of 64 slots is of size 64
+pub whole : (d : Directory) → length d.slots ≡ 64 → size d ≡ 64
+unfolding size
+whole d h = h
 
 -- slots, settings and sets put together
 pub settled : (d : Directory) {e : Directory} {l : List Entry} {h : List ℕ} → with l d ≡ e → h ≡ table 64 (holders_of e) → directory_of l d.settings h ≡ kept e
