@@ -5,10 +5,10 @@ use Rattle.numeric.specs.Bits.{sum_below, bit_at, ones_below}
 use Rattle.order.specs.Flag.{flag}
 use Rattle.coherence.specs.Bytes.{block_at, put_block, word_at, put_word}
 use Rattle.coherence.specs.Settings.{is_through, through, drill_settings}
-use Rattle.coherence.specs.Slots.{place, slot_at, set_slot, state_number, holds, modified, units_with, holders_of, held_by, table, kept, owner_of, all_below, fits, alone, slot_rule, kind_rule, sound_slots, sound_kinds, sound_sets, sound, cold_directory}
+use Rattle.coherence.specs.Slots.{place, slot_at, set_slot, holds, modified, units_with, holders_of, held_by, table, kept, owner_of, all_below, fits, alone, slot_rule, kind_rule, sound_slots, sound_kinds, sound_sets, sound, cold_directory}
 use Rattle.coherence.specs.Access.{ready, give, mark, write_back, copyback, emptied, empty, yield, reads, stolen, asked, ask, fill, fetch, each_unit, expel, claim, cache_place, write, load, own, write_through, store_through, store, flush}
-use Rattle.coherence.specs.Refusal.{sized, is_unit, is_address, is_block, size_test, directory_test, unit_test, target_test, call_refusal, start_refusal, peek_refusal}
-use Rattle.coherence.specs.Calls.{unit_of, is_target, refusal, act, loaded, settle, after, value_of, packed, answer, memory_after, cache_after, answers, after_all, answers_cold, after_cold}
+use Rattle.coherence.specs.Refusal.{sized, is_unit, is_address, is_block, size_test, directory_test, unit_test, target_test, call_refusal}
+use Rattle.coherence.specs.Calls.{unit_of, is_target, refusal, act, loaded, settle, after, value_of, packed, answer, memory_after, cache_after, answers, answers_cold}
 use Rattle.holders.specs.Holders.{holders_refusal, holders_refused, holders_answer}
 use Rattle.holders.specs.Examples.{calls, set_and_count, Examples}
 

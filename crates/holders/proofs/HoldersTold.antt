@@ -11,7 +11,7 @@ use Rattle.order.specs.Flag.{flag}
 use Rattle.order.specs.Refusal.{first_refusal}
 use Rattle.order.proofs.FlagLaws.{flag_small}
 use Rattle.order.proofs.RefusalLaws.{Passes, passed}
-use Rattle.numeric.specs.Bits.{sum_below, bit_at, contains, ones_below}
+use Rattle.numeric.specs.Bits.{bit_at, contains, ones_below}
 use Rattle.numeric.proofs.BitsLaws.{sum_same, ones_count}
 use Rattle.coherence.specs.declared.Directory.{Directory}
 use Rattle.coherence.specs.Slots.{place, slot_at, slot_of, holds, units_with, holders_of, held_by, sound}
