@@ -53,7 +53,7 @@ record Attempts (d : Directory) (m k : List ℕ) (cs : List Call) : Type 0 where
 attempted : (d : Directory) (m k : List ℕ) (cs : List Call) → Attempts d m k cs
 unfolding attempts before answers after_all ready orders_given numbers_accepted reply
 attempted d m k [] = record { taken = refl; leaves = refl; orders = refl; values = refl }
-attempted d m k (c ∷ cs) = go (eqb (refusal d m k c) 0) refl (attempted _ _ _ cs)
+attempted d m k (c ∷ cs) = go (eqb (refusal d m k c) 0) refl (attempted (answer d m k c).directory (memory_after d m k c) (cache_after d m k c) cs)
   where
     same : (answer d m k c).refusal ≡ refusal d m k c
     same = told d m k c
@@ -84,7 +84,7 @@ tests d m k c = call_tests d m k (unit_of c) (is_target c)
 number_few : (d : Directory) (m k : List ℕ) (cs : List Call) → number d m k cs ≤ 4
 unfolding number
 number_few d m k [] = omega arith
-number_few d m k (c ∷ cs) = go (eqb (refusal d m k c) 0) (number_few _ _ _ cs)
+number_few d m k (c ∷ cs) = go (eqb (refusal d m k c) 0) (number_few (answer d m k c).directory (memory_after d m k c) (cache_after d m k c) cs)
   where
     few : (a b c d : Bool) → cond a (cond b (cond c (cond d 0 4) 3) 2) 1 ≤ 4
     few true true true true = omega arith
@@ -106,7 +106,7 @@ record Same (d : Directory) (m k : List ℕ) (cs : List Call) (vs : List ℕ) (n
 after_ready : (d : Directory) (m k : List ℕ) (cs : List Call) → after_all d m k cs ≡ ready (after_all d m k cs).directory (after_all d m k cs).memory (after_all d m k cs).cache
 unfolding after_all ready
 after_ready d m k [] = refl
-after_ready d m k (c ∷ cs) = after_ready _ _ _ cs
+after_ready d m k (c ∷ cs) = after_ready (answer d m k c).directory (memory_after d m k c) (cache_after d m k c) cs
 
 abbrev call : List Access → List ℕ → Batch → Listed
 call l vs w = record { list = l; lent = vs; left = w.values; outcome = w.outcome }
@@ -152,13 +152,13 @@ answers_append : (d : Directory) (m k : List ℕ) (cs cs' : List Call)
     → answers d m k (cs ++ cs') ≡ answers d m k cs ++ answers (after_all d m k cs).directory (after_all d m k cs).memory (after_all d m k cs).cache cs'
 unfolding answers after_all ready
 answers_append d m k [] cs' = refl
-answers_append d m k (c ∷ cs) cs' = ap (λ (x : List Answer). answer d m k c ∷ x) (answers_append _ _ _ cs cs')
+answers_append d m k (c ∷ cs) cs' = ap (λ (x : List Answer). answer d m k c ∷ x) (answers_append (answer d m k c).directory (memory_after d m k c) (cache_after d m k c) cs cs')
 
 after_append : (d : Directory) (m k : List ℕ) (cs cs' : List Call)
     → after_all d m k (cs ++ cs') ≡ after_all (after_all d m k cs).directory (after_all d m k cs).memory (after_all d m k cs).cache cs'
 unfolding after_all ready
 after_append d m k [] cs' = refl
-after_append d m k (c ∷ cs) cs' = after_append _ _ _ cs cs'
+after_append d m k (c ∷ cs) cs' = after_append (answer d m k c).directory (memory_after d m k c) (cache_after d m k c) cs cs'
 
 values_append : (rs rs' : List Answer) → values_in (rs ++ rs') ≡ values_in rs ++ values_in rs'
 unfolding numbers_accepted

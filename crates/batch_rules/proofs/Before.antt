@@ -32,7 +32,7 @@ orders_few d m k [] = omega arith
 orders_few d m k (c ∷ cs) =
     let n : length (orders_in (answer d m k c)) ≡ (answer d m k c).orders.count = (answers_orders d m k c).counted in
     let f : (answer d m k c).orders.count ≤ 4 = (answers_orders d m k c).few in
-    let r : orders_given (answers (answer d m k c).directory (memory_after d m k c) (cache_after d m k c) cs) ≤ 4 * length cs = orders_few _ _ _ cs in
+    let r : orders_given (answers (answer d m k c).directory (memory_after d m k c) (cache_after d m k c) cs) ≤ 4 * length cs = orders_few (answer d m k c).directory (memory_after d m k c) (cache_after d m k c) cs in
     omega (arith, n, f, r)
 
 pub record Before (d : Directory) (m k : List ℕ) (cs : List Call) : Type 0 where
@@ -48,7 +48,7 @@ pub record Before (d : Directory) (m k : List ℕ) (cs : List Call) : Type 0 whe
 pub before_first : (d : Directory) (m k : List ℕ) (cs : List Call) → Before d m k cs
 unfolding before number answers after_all ready Each answer
 before_first d m k [] = record { taken = refl; few = omega arith; accepts = tt; whole = λ z. refl; stops = λ z. absurd (z refl) }
-before_first d m k (c ∷ cs) = go (eqb (refusal d m k c) 0) refl (before_first _ _ _ cs)
+before_first d m k (c ∷ cs) = go (eqb (refusal d m k c) 0) refl (before_first (answer d m k c).directory (memory_after d m k c) (cache_after d m k c) cs)
   where
     go : (t : Bool) → eqb (refusal d m k c) 0 ≡ t → Before (answer d m k c).directory (memory_after d m k c) (cache_after d m k c) cs → Before d m k (c ∷ cs)
     go true e h =

@@ -98,7 +98,7 @@ shaped : (d : Directory) (m k : List ℕ) (cs : List Call) → Shaped d (after_a
 unfolding after_all ready
 shaped d m k [] = record { slots = refl; settings = refl; sets = λ h. h }
 shaped d m k (c ∷ cs) =
-    let r : Shaped (answer d m k c).directory (after_all (answer d m k c).directory (memory_after d m k c) (cache_after d m k c) cs).directory = shaped _ _ _ cs in
+    let r : Shaped (answer d m k c).directory (after_all (answer d m k c).directory (memory_after d m k c) (cache_after d m k c) cs).directory = shaped (answer d m k c).directory (memory_after d m k c) (cache_after d m k c) cs in
     record { slots = r.slots ∙ answer_slots d m k c; settings = r.settings ∙ answer_settings d m k c; sets = λ h. r.sets (answer_sets d m k c h) }
 
 ran_shaped : (vs : List ℕ) (d : Directory) (m k : List ℕ) (l : List Access) → Shaped d (ran (none 0 d) vs m k l).outcome.directory
