@@ -1,6 +1,6 @@
 -- The bus handler (document 01, "The bus handler"): the round robin, the lock, the grant, and what is refused.
 -- A set of units is a number in which unit u has weight 2 ^ u.
-use Rattle.std.specs.Prelude.{ℕ, zero, suc, ◌+◌, ◌-◌, ◌%◌, ◌^◌, Bool, true, false, cond, ◌&&◌, eqb, leb}
+use Rattle.std.specs.Prelude.{ℕ, zero, suc, ◌+◌, ◌-◌, ◌%◌, Bool, true, false, cond, ◌&&◌, eqb, leb}
 use Rattle.std.proofs.Math.Option.{Option, none, some}
 use Rattle.numeric.specs.Bits.{contains}
 use Rattle.order.specs.Refusal.{accepted, bad_state}

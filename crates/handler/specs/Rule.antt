@@ -1,7 +1,7 @@
 -- The rule of document 01, "The bus handler", sentence by sentence, over the answer of `arbitration`: the lock, the first member met, and, over a list of
 -- calls from the fresh state, the owner. Nothing here speaks of how the lock's step or the search is defined.
 use Rattle.std.specs.Prelude.{ℕ, ◌<◌, ◌≤◌, ◌≡◌, Bool, true, false, ◌≢◌, List, eqb}
-use Rattle.std.proofs.Math.Option.{none, some, Option·elim}
+use Rattle.std.proofs.Math.Option.{none, some, Option-elim}
 use Rattle.order.specs.Refusal.{accepted}
 use Rattle.handler.specs.declared.Class.{Class}
 use Rattle.handler.specs.declared.Class.TheVariants.{Low}
@@ -48,7 +48,7 @@ GrantsFirst = (s : State) (high low : ℕ) (lck : Bool) (c : Class) (u : ℕ) �
 
 -- if a lock is held after a call, its owner is the last low unit
 unfoldable pub is_owner_last : Call → Bool
-is_owner_last k = Option·elim (owner_of (answer k).state.lock) true (λ o. eqb o (answer k).state.last_low)
+is_owner_last k = Option-elim (owner_of (answer k).state.lock) true (λ o. eqb o (answer k).state.last_low)
 
 -- after each call of any list from the fresh state, refused calls among them
 unfoldable pub OwnerIsLast : Type 0

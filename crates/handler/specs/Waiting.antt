@@ -1,6 +1,6 @@
 -- "Nobody waits forever" (document 02, T-09): what is claimed of a list of calls of any length, once for both classes of request.
 use Rattle.std.specs.Prelude.{ℕ, zero, suc, ◌≤◌, ◌≡◌, Bool, true, false, cond, ◌&&◌, ◌||◌, List, [], ◌∷◌, length, replicate, eqb}
-use Rattle.std.proofs.Math.Option.{Option·elim}
+use Rattle.std.proofs.Math.Option.{Option-elim}
 use Rattle.order.specs.Refusal.{accepted}
 use Rattle.handler.specs.declared.Class.{Class}
 use Rattle.handler.specs.declared.Class.TheVariants.{High, Low}
@@ -41,15 +41,15 @@ asks c u k = contains (requests c k.input.high k.input.low) u
 
 -- the call gives a grant of class c
 unfoldable pub is_grant : Class → Call → Bool
-is_grant c k = Option·elim (unit_granted c (answer k).grant) false (λ v. true)
+is_grant c k = Option-elim (unit_granted c (answer k).grant) false (λ v. true)
 
 -- it gives it to unit u
 unfoldable pub is_grant_to : Class → ℕ → Call → Bool
-is_grant_to c u k = Option·elim (unit_granted c (answer k).grant) false (λ v. eqb v u)
+is_grant_to c u k = Option-elim (unit_granted c (answer k).grant) false (λ v. eqb v u)
 
 -- no lock is held: the lock that a call leaves is the one that its grant was decided by
 unfoldable pub is_unlocked : Call → Bool
-is_unlocked k = Option·elim (owner_of (answer k).state.lock) true (λ o. false)
+is_unlocked k = Option-elim (owner_of (answer k).state.lock) true (λ o. false)
 
 -- "RQH empty and no lock"
 unfoldable pub is_clear : Call → Bool
