@@ -2,6 +2,7 @@
 pub mod ReceiverTests
 pub mod SenderTests
 pub mod ReceiverLaws
+pub mod StateLaws
 pub mod SenderLaws
 pub mod Operations
 pub mod Delivers

@@ -1,0 +1,19 @@
+use borrow.Author.Rules.{rules}
+use Rattle.message_rules.specs.Operation.{ends}
+use Rattle.message.proofs.operation.is_end.Goals as goal
+
+pub returns-in-Single : goal.returns-in-Single
+unfolding ends
+returns-in-Single c = rw c.in-Single.is
+
+pub returns-in-First : goal.returns-in-First
+unfolding ends
+returns-in-First c = rw c.in-First.is
+
+pub returns-in-Middle : goal.returns-in-Middle
+unfolding ends
+returns-in-Middle c = rw c.in-Middle.is
+
+pub returns-in-Last : goal.returns-in-Last
+unfolding ends
+returns-in-Last c = rw c.in-Last.is
