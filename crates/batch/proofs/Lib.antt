@@ -1,7 +1,3 @@
 mod StepLaws
 mod Underway
-mod Locals
-mod Again
-mod Relend
-mod Prefix
 mod TakeLaws

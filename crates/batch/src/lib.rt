@@ -2,7 +2,7 @@
 #![tactic(auto)]
 
 ghost use Rattle.std.specs.Prelude.{◌≡◌, length, take};
-ghost use Rattle.batch_rules.specs.Batch.{batch, result};
+ghost use Rattle.batch_rules.specs.Batch.{batch, batch_result};
 ghost use Rattle.batch.specs.Step.{Room, Stepped};
 
 use batch_outcome::{at_most, goes_on, open};
@@ -19,7 +19,7 @@ fn step<'a>(
     cache: &'a mut [u8],
 ) -> Outcome
     requires { Room s (length values.old) }
-    ensures* { λ r. ⌜ Stepped access s values.old memory.old cache.old r values.new memory.new cache.new ⌝ }
+    ensures { Stepped access s values.old memory.old cache.old result values.new memory.new cache.new }
 {
     let call = access.call;
     let directory = s.directory;
@@ -53,7 +53,7 @@ pub fn run_batch(
     memory: &mut [u8],
     cache: &mut [u8],
 ) -> Outcome
-    ensures* { λ r. ⌜ batch r values.new memory.new cache.new ≡ result list.now values.old directory memory.old cache.old ⌝ }
+    ensures { batch result values.new memory.new cache.new ≡ batch_result list.now values.old directory memory.old cache.old }
 {
     let count = list.len();
     let mut s = open(directory, count, values.len());
@@ -73,7 +73,7 @@ pub fn run_array(
     memory: &mut [u8],
     cache: &mut [u8],
 ) -> Outcome
-    ensures* { λ r. ⌜ batch r values.new memory.new cache.new ≡ result (take count list) values.old directory memory.old cache.old ⌝ }
+    ensures { batch result values.new memory.new cache.new ≡ batch_result (take count list) values.old directory memory.old cache.old }
 {
     let n = at_most(64, count);
     run_batch(&list[0..n], values, directory, memory, cache)

@@ -11,7 +11,7 @@ use borrow.Author.Tests.{eqb-true, eqb-false, ltb-true, ltb-false, leb-true, leb
 use Rattle.crossing.specs.Capped.{capped}
 use Rattle.batch_rules.specs.declared.Access.{Access}
 use Rattle.batch_rules.specs.declared.Outcome.{Outcome}
-use Rattle.batch_rules.specs.Batch.{Batch, batch, ran, none, result}
+use Rattle.batch_rules.specs.Batch.{Batch, batch, ran, none, batch_result}
 use Rattle.batch_rules.specs.Split.{joined}
 use Rattle.batch_rules.specs.Numbers.{count_of, known, unknown, refused_by, ran_numbers}
 use Rattle.batch_rules.proofs.RanLaws.{ran_still}
@@ -37,7 +37,7 @@ below a b h e = go (ltb a b) refl
 
 module _ (s : Outcome) (ns vs m k : List ℕ) (room : Room s ns (length vs)) (most count : ℕ) (list : List Access) (p : Outcome) (vs'' m' k' : List ℕ)
     (em : most ≡ capped 64 (count_of ns - s.index)) (ec : count ≡ length (known ns s.index most)) (el : take count list ≡ consecutive ns s.index count)
-    (er : batch p vs'' m' k' ≡ result (take count list) (take (length vs - s.index) (drop s.index vs)) s.directory m k) where
+    (er : batch p vs'' m' k' ≡ batch_result (take count list) (take (length vs - s.index) (drop s.index vs)) s.directory m k) where
   abbrev i : ℕ
   i = s.index
 
@@ -77,8 +77,8 @@ module _ (s : Outcome) (ns vs m k : List ℕ) (room : Room s ns (length vs)) (mo
   part_is : batch p vs'' m' k' ≡ alone
   part_is =
       er
-      ∙ ap (λ (x : List ℕ). result (take count list) x s.directory m k) lent
-      ∙ ap (λ (x : List Access). result x (drop i vs) s.directory m k) taken
+      ∙ ap (λ (x : List ℕ). batch_result (take count list) x s.directory m k) lent
+      ∙ ap (λ (x : List Access). batch_result x (drop i vs) s.directory m k) taken
       ∙ fits_result l (drop i vs) s.directory m k (omega (arith, few, mosts)) (omega (arith, few, mosts, bounds, dropped))
 
   outcome_is : p ≡ alone.outcome

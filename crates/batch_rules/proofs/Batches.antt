@@ -22,7 +22,7 @@ use Rattle.coherence.proofs.Counts.{refused}
 use Rattle.coherence.proofs.Sessions.{ran_some}
 use Rattle.coherence.proofs.Theorem.{demand3}
 use Rattle.batch_rules.specs.declared.Access.{Access}
-use Rattle.batch_rules.specs.Batch.{Batch, batch, calls_of, before, number, made, none, result}
+use Rattle.batch_rules.specs.Batch.{Batch, batch, calls_of, before, number, made, none, batch_result}
 use Rattle.batch_rules.specs.Batches.{Listed, BatchesRan, tried, tried_all, values_told, orders_told, numbers_accepted, BatchesHold}
 use Rattle.batch_rules.proofs.Before.{before_first, calls_counted, values_counted}
 use Rattle.batch_rules.proofs.Sentences.{fits, room, is_made, is_none}
@@ -140,10 +140,10 @@ module _ (l : List Access) (vs : List ℕ) (d : Directory) (m k : List ℕ) wher
       rw (zero-add (length b), zero-add (orders_given (answers d m k b)), n, ← a.taken)
       (record { leaves = a.leaves ∙ after_ready d m k b; values = a.values ∙ sym (front e); orders = a.orders })
 
-  one : (w : Batch) → w ≡ result l vs d m k → SameOf w
+  one : (w : Batch) → w ≡ batch_result l vs d m k → SameOf w
   one w is = subst SameOf (sym is) (go (fits l vs d m k) refl)
     where
-      go : (t : Bool) → fits l vs d m k ≡ t → SameOf (result l vs d m k)
+      go : (t : Bool) → fits l vs d m k ≡ t → SameOf (batch_result l vs d m k)
       go true e = subst SameOf (sym (is_made l vs d m k e)) (made_same e)
       go false e = subst SameOf (sym (is_none l vs d m k e)) none_same
 

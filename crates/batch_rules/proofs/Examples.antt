@@ -11,7 +11,7 @@ use Rattle.coherence.specs.Calls.{unit_of, is_target, refusal, act, loaded, sett
 use Rattle.coherence.specs.Demand3.{orders_in, orders_given}
 use Rattle.coherence.specs.Examples.{zeros, drill_calls}
 use Rattle.crossing.specs.Capped.{capped}
-use Rattle.batch_rules.specs.Batch.{calls_of, before, number, made, ran, none, opened, result}
+use Rattle.batch_rules.specs.Batch.{calls_of, before, number, made, ran, none, opened, batch_result}
 use Rattle.batch_rules.specs.Numbers.{is_kind, call_from, kind_at, access_at, count_of, known, unknown, refused_by, ran_numbers, opened_numbers, numbers_result}
 use Rattle.batch_rules.specs.Examples.{fields_of, list_cold, numbers_cold, Examples}
 
@@ -24,6 +24,6 @@ unfolding
     first_refusal sized is_unit is_address is_block size_test directory_test unit_test target_test call_refusal
     unit_of is_target refusal act loaded settle after value_of packed answer memory_after cache_after answers after_all
     orders_in orders_given zeros drill_calls capped
-    calls_of before number made ran none opened result
+    calls_of before number made ran none opened batch_result
     is_kind call_from kind_at access_at count_of known unknown refused_by ran_numbers opened_numbers numbers_result fields_of list_cold numbers_cold
 examples = record { drill = refl; stopped = refl; unknown = refl }

@@ -16,7 +16,7 @@ use Rattle.coherence.proofs.Shapes.{answer_slots, answer_settings, answer_sets}
 use Rattle.crossing.proofs.CappedLaws.{caps}
 use Rattle.batch_rules.specs.declared.Access.{Access}
 use Rattle.batch_rules.specs.declared.Outcome.{Outcome}
-use Rattle.batch_rules.specs.Batch.{Batch, batch, calls_of, before, made, ran, none, opened, result}
+use Rattle.batch_rules.specs.Batch.{Batch, batch, calls_of, before, made, ran, none, opened, batch_result}
 use Rattle.batch_rules.specs.Numbers.{is_kind, call_from, kind_at, access_at, count_of, known, unknown, refused_by, opened_numbers, ran_numbers, numbers_result, access_numbers, numbers_of, Fit, AllFit, NumbersSay}
 use Rattle.batch_rules.proofs.RanLaws.{ran_none, ran_still}
 use Rattle.batch_rules.proofs.Sentences.{and-false}
@@ -213,8 +213,8 @@ module _ (vs : List ℕ) (d : Directory) (m k : List ℕ) where
       r : Batch
       r = ran (none n d) vs m k l
 
-  numbers_list : (l : List Access) → AllFit l → numbers_result (numbers_of l) vs d m k ≡ result l vs d m k
-  unfolding numbers_result opened_numbers opened result
+  numbers_list : (l : List Access) → AllFit l → numbers_result (numbers_of l) vs d m k ≡ batch_result l vs d m k
+  unfolding numbers_result opened_numbers opened batch_result
   numbers_list l h =
       let w : Means l (numbers_of l) = means l h in
       let n : length (numbers_of l) / 4 ≡ length l = omega (arith, w.count) in

@@ -18,7 +18,7 @@ use Rattle.coherence.specs.Calls.{refusal, answer, answers, after_all, value_of,
 use Rattle.coherence.specs.Demand3.{Each, orders_given, is_load}
 use Rattle.coherence.proofs.Counts.{refused}
 use Rattle.batch_rules.specs.declared.Access.{Access}
-use Rattle.batch_rules.specs.Batch.{batch, calls_of, before, number, made, ran, none, opened, result}
+use Rattle.batch_rules.specs.Batch.{batch, calls_of, before, number, made, ran, none, opened, batch_result}
 use Rattle.batch_rules.specs.Sentences.{Singly, Stopped, SentencesHold, EmptyAccepted, ZeroValues}
 use Rattle.batch_rules.proofs.Before.{Before, before_first, calls_counted, values_counted}
 use Rattle.batch_rules.proofs.RanLaws.{ran_none}
@@ -39,12 +39,12 @@ module _ (l : List Access) (vs : List ℕ) (d : Directory) (m k : List ℕ) wher
   fits = leb (length l) 65536 && leb (length l) (length vs)
 
   -- with room, and without
-  pub is_made : fits ≡ true → result l vs d m k ≡ made (none 0 d) vs m k (before d m k cs) (number d m k cs)
-  unfolding result ran opened none
+  pub is_made : fits ≡ true → batch_result l vs d m k ≡ made (none 0 d) vs m k (before d m k cs) (number d m k cs)
+  unfolding batch_result ran opened none
   is_made e = rw e refl
 
-  pub is_none : fits ≡ false → result l vs d m k ≡ batch (none 9 d) vs m k
-  unfolding result ran opened none
+  pub is_none : fits ≡ false → batch_result l vs d m k ≡ batch (none 9 d) vs m k
+  unfolding batch_result ran opened none
   is_none e = rw e refl
 
   pub room : fits ≡ true → length l ≤ length vs
@@ -55,7 +55,7 @@ module _ (l : List Access) (vs : List ℕ) (d : Directory) (m k : List ℕ) wher
       go true false f z = absurd (false≢true z)
       go false t f z = absurd (false≢true z)
 
-  singly : (t : Bool) → fits ≡ t → Singly (take (result l vs d m k).outcome.index cs) vs d m k (result l vs d m k)
+  singly : (t : Bool) → fits ≡ t → Singly (take (batch_result l vs d m k).outcome.index cs) vs d m k (batch_result l vs d m k)
   unfolding made none answers after_all ready orders_given Each
   singly true e =
       let f : Before d m k cs = before_first d m k cs in
@@ -73,15 +73,15 @@ module _ (l : List Access) (vs : List ℕ) (d : Directory) (m k : List ℕ) wher
       })
   singly false e = rw (is_none e) (record { index = refl; accepts = tt; orders = refl; directory = refl; memory = refl; cache = refl; values = refl })
 
-  whole : (t : Bool) → fits ≡ t → (result l vs d m k).outcome.refusal ≡ 0 → (result l vs d m k).outcome.index ≡ length l
+  whole : (t : Bool) → fits ≡ t → (batch_result l vs d m k).outcome.refusal ≡ 0 → (batch_result l vs d m k).outcome.index ≡ length l
   unfolding made none
   whole true e z =
       let q : number d m k cs ≡ 0 = rw (is_made e) at z in
       rw (is_made e) (zero-add _ ∙ ap (λ (x : List Call). length x) ((before_first d m k cs).whole q) ∙ calls_counted l)
   whole false e z = let q : ◌≡◌ {A = ℕ} 9 0 = rw (is_none e) at z in absurd (omega (arith, q))
 
-  stopped : fits ≡ true → ((result l vs d m k).outcome.refusal ≡ 0 → ⊥)
-      → (c : Call) × (rest : List Call) × (drop (result l vs d m k).outcome.index cs ≡ c ∷ rest) × Stopped c (result l vs d m k)
+  stopped : fits ≡ true → ((batch_result l vs d m k).outcome.refusal ≡ 0 → ⊥)
+      → (c : Call) × (rest : List Call) × (drop (batch_result l vs d m k).outcome.index cs ≡ c ∷ rest) × Stopped c (batch_result l vs d m k)
   unfolding made none answer
   stopped e h =
       let z : number d m k cs ≡ 0 → ⊥ = rw (is_made e) at h in
@@ -101,7 +101,7 @@ sentences_hold l vs d m k =
     }
 
 pub empty_accepted : EmptyAccepted
-unfolding EmptyAccepted result opened none
+unfolding EmptyAccepted batch_result opened none
 empty_accepted vs d m k = ran_none (opened d 0 (length vs)) vs m k ∙ rw (le-leb 0 (length vs) (omega arith)) refl
 
 pub zero_values : ZeroValues

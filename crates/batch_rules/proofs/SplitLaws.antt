@@ -16,7 +16,7 @@ use Rattle.coherence.specs.Calls.{answer, memory_after, cache_after, answers}
 use Rattle.coherence.specs.Demand3.{orders_given}
 use Rattle.batch_rules.specs.declared.Access.{Access}
 use Rattle.batch_rules.specs.declared.Outcome.{Outcome}
-use Rattle.batch_rules.specs.Batch.{Batch, batch, calls_of, before, made, ran, none, opened, result}
+use Rattle.batch_rules.specs.Batch.{Batch, batch, calls_of, before, made, ran, none, opened, batch_result}
 use Rattle.batch_rules.specs.Split.{joined, continued, SplitsAnywhere}
 use Rattle.batch_rules.proofs.Before.{before_first, calls_counted, values_counted, orders_few}
 use Rattle.batch_rules.proofs.RanLaws.{ran_none, ran_still, ran_refused, ran_accepted}
@@ -80,8 +80,8 @@ ran_shift s vs m k l e h =
     rw (eq-eqb _ _ e, sets_behind v vs s.index (omega (arith, h, n, f, c)), zero-add (length b), zero-add (orders_given (answers s.directory m k b))) refl
 
 -- ---- what holds of every call with a list
-pub fits_result : (l : List Access) (vs : List ℕ) (d : Directory) (m k : List ℕ) → length l ≤ 65536 → length l ≤ length vs → result l vs d m k ≡ ran (none 0 d) vs m k l
-unfolding result opened
+pub fits_result : (l : List Access) (vs : List ℕ) (d : Directory) (m k : List ℕ) → length l ≤ 65536 → length l ≤ length vs → batch_result l vs d m k ≡ ran (none 0 d) vs m k l
+unfolding batch_result opened
 fits_result l vs d m k h h' = rw (le-leb _ _ h, le-leb _ _ h') refl
 
 module _ (vs : List ℕ) (d : Directory) (m k : List ℕ) (l : List Access) where
@@ -117,7 +117,7 @@ splits_anywhere l l' vs d m k h h' =
     v = drop w.outcome.index w.values
 
     u : Batch
-    u = result l' v w.outcome.directory w.memory w.cache
+    u = batch_result l' v w.outcome.directory w.memory w.cache
 
     go : length (l ++ l') ≡ length l + length l' → (t : Bool) → eqb w.outcome.refusal 0 ≡ t → from w l' ≡ cond t (joined w u) w
     go n true e =

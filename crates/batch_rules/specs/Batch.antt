@@ -78,5 +78,5 @@ opened d count room = none (cond (leb count most_accesses && leb count room) acc
 
 -- ---- what the contract cites
 
-unfoldable pub result : List Access → List ℕ → Directory → List ℕ → List ℕ → Batch
-result l vs d m k = ran (opened d (length l) (length vs)) vs m k l
+unfoldable pub batch_result : List Access → List ℕ → Directory → List ℕ → List ℕ → Batch
+batch_result l vs d m k = ran (opened d (length l) (length vs)) vs m k l

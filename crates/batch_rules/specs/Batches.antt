@@ -12,7 +12,7 @@ use Rattle.coherence.specs.PlainMemory.{Reply, plain_replies}
 use Rattle.coherence.specs.Demand3.{Started, Session, Demand3, loads, stores, per_store}
 use Rattle.batch_rules.specs.declared.Access.{Access}
 use Rattle.batch_rules.specs.declared.Outcome.{Outcome}
-use Rattle.batch_rules.specs.Batch.{batch, calls_of, result}
+use Rattle.batch_rules.specs.Batch.{batch, calls_of, batch_result}
 
 -- a call: its list, the space for values before and after it, and its outcome
 pub record Listed : Type 0 where
@@ -25,7 +25,7 @@ pub record Listed : Type 0 where
 unfoldable pub BatchesRan : Directory → List ℕ → List ℕ → List Listed → Directory → List ℕ → List ℕ → Type 0
 BatchesRan d m k [] e m' k' = (e ≡ d) × (m' ≡ m) × (k' ≡ k)
 BatchesRan d m k (b ∷ bs) e m' k' =
-    (m₁ : List ℕ) × (k₁ : List ℕ) × (batch b.outcome b.left m₁ k₁ ≡ result b.list b.lent d m k) × BatchesRan b.outcome.directory m₁ k₁ bs e m' k'
+    (m₁ : List ℕ) × (k₁ : List ℕ) × (batch b.outcome b.left m₁ k₁ ≡ batch_result b.list b.lent d m k) × BatchesRan b.outcome.directory m₁ k₁ bs e m' k'
 
 -- the accesses that a call tried: those that it made, and the refused one. A list that is refused with 9 tries none.
 unfoldable pub tried : Listed → List Call

@@ -6,7 +6,7 @@ use Rattle.coherence.specs.Bytes.{store_size}
 use Rattle.coherence.specs.Settings.{drill_settings}
 use Rattle.coherence.specs.Slots.{cold_directory}
 use Rattle.coherence.specs.Examples.{zeros, drill_calls}
-use Rattle.batch_rules.specs.Batch.{Batch, result}
+use Rattle.batch_rules.specs.Batch.{Batch, batch_result}
 use Rattle.batch_rules.specs.Numbers.{numbers_result}
 
 -- refusal, index, orders and values of a batch
@@ -15,7 +15,7 @@ fields_of w = (w.outcome.refusal, w.outcome.index, w.outcome.orders, w.values)
 
 unfoldable pub list_cold : List Call → ℕ → ℕ × ℕ × ℕ × List ℕ
 list_cold cs room =
-    fields_of (result (map (λ c. record { call = c }) cs) (replicate room 7) (cold_directory drill_settings) zeros (replicate store_size 0))
+    fields_of (batch_result (map (λ c. record { call = c }) cs) (replicate room 7) (cold_directory drill_settings) zeros (replicate store_size 0))
 
 unfoldable pub numbers_cold : List ℕ → ℕ → ℕ × ℕ × ℕ × List ℕ
 numbers_cold ns room = fields_of (numbers_result ns (replicate room 7) (cold_directory drill_settings) zeros (replicate store_size 0))

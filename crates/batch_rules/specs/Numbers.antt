@@ -8,7 +8,7 @@ use Rattle.coherence.specs.declared.Call.TheVariants.{Load, Store, Flush}
 use Rattle.crossing.specs.Capped.{capped}
 use Rattle.batch_rules.specs.declared.Access.{Access}
 use Rattle.batch_rules.specs.declared.Outcome.{Outcome}
-use Rattle.batch_rules.specs.Batch.{Batch, batch, ran, none, opened, result}
+use Rattle.batch_rules.specs.Batch.{Batch, batch, ran, none, opened, batch_result}
 
 -- the kinds that there are
 unfoldable pub is_kind : ℕ → Bool
@@ -92,7 +92,7 @@ AllFit (a ∷ l) = Fit a.call × AllFit l
 
 pub record NumbersSay (vs : List ℕ) (d : Directory) (m k : List ℕ) : Type 0 where
   -- the numbers of a list give what the list gives
-  pub list : (l : List Access) → AllFit l → numbers_result (numbers_of l) vs d m k ≡ result l vs d m k
+  pub list : (l : List Access) → AllFit l → numbers_result (numbers_of l) vs d m k ≡ batch_result l vs d m k
   -- 9 first, at index 0, and nothing is changed
   pub long : (ns : List ℕ) → 65536 < count_of ns → numbers_result ns vs d m k ≡ batch (none no_room d) vs m k
   pub short : (ns : List ℕ) → length vs < count_of ns → numbers_result ns vs d m k ≡ batch (none no_room d) vs m k

@@ -4,7 +4,7 @@ use Rattle.std.specs.Prelude.{ℕ, ◌+◌, ◌≤◌, ◌≡◌, cond, List, �
 use Rattle.order.specs.Refusal.{accepted}
 use Rattle.coherence.specs.declared.Directory.{Directory}
 use Rattle.batch_rules.specs.declared.Access.{Access}
-use Rattle.batch_rules.specs.Batch.{Batch, batch, result}
+use Rattle.batch_rules.specs.Batch.{Batch, batch, batch_result}
 
 -- the outcome v of a second call, counted on from the first call's w
 unfoldable pub joined : Batch → Batch → Batch
@@ -25,10 +25,10 @@ unfoldable pub continued : Batch → List Access → Batch
 continued w l =
     cond
     (eqb w.outcome.refusal accepted)
-    (joined w (result l (drop w.outcome.index w.values) w.outcome.directory w.memory w.cache))
+    (joined w (batch_result l (drop w.outcome.index w.values) w.outcome.directory w.memory w.cache))
     w
 
 unfoldable pub SplitsAnywhere : Type 0
 SplitsAnywhere =
     (l l' : List Access) (vs : List ℕ) (d : Directory) (m k : List ℕ) → length (l ++ l') ≤ 65536 → length (l ++ l') ≤ length vs
-    → result (l ++ l') vs d m k ≡ continued (result l vs d m k) l'
+    → batch_result (l ++ l') vs d m k ≡ continued (batch_result l vs d m k) l'
