@@ -36,11 +36,11 @@ module _ (rule : Rule) (tape : List ℕ) (at : ℕ) where
 
 ruled_number : (rule : Rule) (at : ℕ) (r : NumberRead) (v q : ℕ) → ruled rule at r ≡ Number v q → (r ≡ Number v q) × (allowed rule v ≡ true)
 unfolding ruled
-ruled_number rule at (Number w p) v q e = go (allowed rule w) refl e
+ruled_number rule at (Number w p) v q e = go (allowed rule w) _ _ refl e
   where
-    go : (t : Bool) → allowed rule w ≡ t → cond t (Number w p) (Refused field_range at) ≡ Number v q → (Number w p ≡ Number v q) × (allowed rule v ≡ true)
-    go true t e = (e, let z : w ≡ v = cc in rw (← z) t)
-    go false t e = absurd (let z : ◌≡◌ {A = ℕ} 0 1 = cc in omega arith)
+    go : (t : Bool) (n place : ℕ) → allowed rule w ≡ t → cond t (Number w p) (Refused n place) ≡ Number v q → (Number w p ≡ Number v q) × (allowed rule v ≡ true)
+    go true n place t e = (e, let z : w ≡ v = cc in rw (← z) t)
+    go false n place t e = absurd (let z : ◌≡◌ {A = ℕ} 0 1 = cc in omega arith)
 ruled_number rule at (Refused n p) v q e = absurd (let z : ◌≡◌ {A = ℕ} 0 1 = cc in omega arith)
 
 -- a field's number is one that its rule allows

@@ -2,7 +2,7 @@
 use Prim.Native.Nat.{ℕ, zero, suc, ◌≤◌, ◌<◌}
 use native.Mathlib.Omega.{arith}
 use mathlib.Core.Path.{◌≡◌, refl, sym, ap, ◌∙◌}
-use mathlib.Core.Logic.{◌⊎◌, inl, inr, ⊎_elim}
+use mathlib.Core.Logic.{◌⊎◌, inl, inr}
 use mathlib.Core.List.{List, [], ◌∷◌}
 use mathlib.Core.Option.{Option, none, some, Option-elim}
 use mathlib.Core.Bool.{Bool, true, false, cond}
@@ -10,7 +10,6 @@ use lib.Dec.{eqb}
 use lib.ListN.{length}
 use borrow.Author.Tests.{eqb-true, ne_eqb}
 use Rattle.order.specs.declared.Command.{Command}
-use Rattle.order.specs.declared.Command.TheVariants as command-names
 use Rattle.order.specs.declared.CommandFound.{CommandFound}
 use Rattle.order.specs.declared.CommandFound.TheVariants.{Known, Unknown}
 use Rattle.order.specs.Command.{command_number, command_of}
@@ -260,7 +259,11 @@ pub in_table : (k : ℕ) (l : Layout) → layout_of k ≡ some l → (k < 7) ⊎
 in_table =
     by_kind (λ k l. (k < 7) ⊎ (k ≡ 8)) (inl (omega arith)) (inl (omega arith)) (inl (omega arith)) (inl (omega arith)) (inl (omega arith)) (inl (omega arith)) (inl (omega arith)) (inr refl)
 
+-- and so none is above 8
+kind_small : (k : ℕ) (l : Layout) → layout_of k ≡ some l → k ≤ 8
+kind_small = by_kind (λ k l. k ≤ 8) (omega arith) (omega arith) (omega arith) (omega arith) (omega arith) (omega arith) (omega arith) (omega arith)
+
 pub valid_small : (r : Record) → valid r ≡ true → Small (kind_of r ∷ fields_of r)
 valid_small r v =
     let (l, o, m) = known r in
-    (limit_64_bits (kind_of r) (⊎_elim (λ h. omega (arith, h)) (λ h. omega (arith, h)) (in_table (kind_of r) l o)), fits_small l (fields_of r) (valid_fits r l o v))
+    (limit_64_bits (kind_of r) (omega (arith, kind_small (kind_of r) l o)), fits_small l (fields_of r) (valid_fits r l o v))

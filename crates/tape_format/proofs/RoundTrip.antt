@@ -2,7 +2,7 @@
 use Prim.Native.Nat.{ℕ, ◌+◌, ◌-◌, ◌≤◌, ◌<◌}
 use native.Mathlib.Nat.{le_refl}
 use native.Mathlib.Omega.{arith}
-use mathlib.Core.Path.{◌≡◌, refl, sym, ap, ap₂, ◌∙◌}
+use mathlib.Core.Path.{◌≡◌, refl, sym, ap, ap₂, ◌∙◌, subst}
 use mathlib.Core.List.{List, [], ◌∷◌, ◌++◌, append_assoc}
 use mathlib.Core.Bool.{Bool, true, false, cond}
 use lib.ListN.{length, take, drop, length-append, take-append-drop}
@@ -12,7 +12,6 @@ use borrow.Author.Tests.{le-leb, lt-leb, eq-eqb}
 use Rattle.order.specs.Refusal.{field_range, no_room}
 use Rattle.tape_format.specs.declared.Record.{Record}
 use Rattle.tape_format.specs.declared.RecordRead.TheVariants as read
-use Rattle.number.specs.declared.NumberRead.TheVariants.{Refused}
 use Rattle.tape_format.specs.declared.Written.TheVariants as wrote
 use Rattle.number.specs.Number.{spell, spell_all, filled, Bytes}
 use Rattle.tape_format.specs.Record.{kind_of, fields_of, record_at}
@@ -124,7 +123,7 @@ reads_from (r ∷ rs) before bytes w =
     let d : bytes ≡ bytes_of r ++ rest = b ∙ ap (λ (s : List ℕ). s ++ rest) c in
     let g : before ++ (bytes_of r ++ rest) ≡ (before ++ bytes_of r) ++ rest = sym (append_assoc before (bytes_of r) rest) in
     let k : length (before ++ bytes_of r) ≡ length before + length (bytes_of r) = simp length-append in
-    (length before + length (bytes_of r), rw d (read_of_bytes r before rest v), rw (d, g, ← k) (reads_from rs (before ++ bytes_of r) rest u))
+    (length before + length (bytes_of r), rw d (read_of_bytes r before rest v), subst (λ (p : ℕ). ReadsAs (before ++ bytes) p rs) k (rw (d, g) (reads_from rs (before ++ bytes_of r) rest u)))
 
 pub tape_reads_back : TapeReadsBack
 unfolding TapeReadsBack

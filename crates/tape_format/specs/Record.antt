@@ -1,6 +1,6 @@
 -- Records on the tape (document 01, "The tape"; document 02, T-04): the table of kinds and their fields, and reading by it, number by number.
 use Rattle.std.specs.Prelude.{ℕ, List, [], ◌∷◌, Bool, true, false, cond, ◌&&◌, length, eqb}
-use Rattle.std.proofs.Math.Option.{Option, none, some, Option·elim}
+use Rattle.std.proofs.Math.Option.{Option, none, some, Option-elim}
 use Rattle.order.specs.declared.Command.{Command}
 use Rattle.order.specs.declared.CommandFound.{CommandFound}
 use Rattle.order.specs.declared.CommandFound.TheVariants.{Known, Unknown}
@@ -84,7 +84,7 @@ fields_at (end r) tape at = out.Record r at
 
 -- the record of a kind that stands at `start`, its fields at `at`; a kind that the table lacks is refusal 7, at its start
 unfoldable pub kind_at : List ℕ → ℕ → ℕ → ℕ → RecordRead
-kind_at tape start kind at = Option·elim (layout_of kind) (out.Refused unknown_kind start) λ layout. fields_at layout tape at
+kind_at tape start kind at = Option-elim (layout_of kind) (out.Refused unknown_kind start) λ layout. fields_at layout tape at
 
 -- the record that starts at a place; "a place exactly at the end of the tape means finished and is no refusal"
 unfoldable pub record_at : List ℕ → ℕ → RecordRead

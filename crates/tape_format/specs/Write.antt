@@ -1,6 +1,6 @@
 -- What a record is written as (document 01, "The tape"), and what writing answers and leaves in the lent space ("Numbers of refusal").
 use Rattle.std.specs.Prelude.{ℕ, List, ◌∷◌, Bool, false, cond, length, leb}
-use Rattle.std.proofs.Math.Option.{Option·elim}
+use Rattle.std.proofs.Math.Option.{Option-elim}
 use Rattle.order.specs.Refusal.{accepted, field_range, no_room}
 use Rattle.tape_format.specs.declared.Record.{Record}
 use Rattle.tape_format.specs.declared.Written.{Written}
@@ -10,7 +10,7 @@ use Rattle.tape_format.specs.Record.{layout_of, kind_of, fields_of, fits}
 
 -- each field is one that the table allows
 unfoldable pub valid : Record → Bool
-valid r = Option·elim (layout_of (kind_of r)) false λ layout. fits layout (fields_of r)
+valid r = Option-elim (layout_of (kind_of r)) false λ layout. fits layout (fields_of r)
 
 -- the record's kind and fields, one after the other
 unfoldable pub bytes_of : Record → List ℕ
