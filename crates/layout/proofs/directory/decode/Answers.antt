@@ -1,23 +1,15 @@
--- : after n turns the first n slots are those that the bytes spell.
 use mathlib.Core.Path.{◌≡◌, refl, sym, ◌∙◌}
-use mathlib.Core.Bool.{◌&&◌}
 use native.Mathlib.Omega.{arith}
-use lib.ListN.{length, length-set}
+use lib.ListN.{length-set}
 use lib.Seq.{take_all}
-use lib.Dec.{leb, eqb}
 use borrow.Author.Tests.{eqb-true}
 use Rattle.coherence.proofs.Below.{both}
-use Rattle.layout.specs.Directory.{directory_size, Paired, slots_spelled, set_in, steal_in, spells_slots, decoded}
+use Rattle.layout.specs.Directory.{Paired, slots_spelled, set_in, steal_in, spells_slots, decoded}
 use Rattle.layout.proofs.DirectoryLaws.{take_slot}
 use Rattle.layout.proofs.directory.decode.Goals as goal
 
 pub pairs-words-requires : goal.pairs-words-requires
-pairs-words-requires c =
-    let b = c.args.bytes.now in
-    let set = c.byte_at-set.result in
-    let steal = c.byte_at-steal.result in
-    let first_two = (both (eqb (length b) directory_size && leb set 15) (leb steal 1) c.if-bytes-set.true).0 in
-    eqb-true (length b) directory_size (both (eqb (length b) directory_size) (leb set 15) first_two).0
+pairs-words-requires c = eqb-true _ _ (both _ _ (both _ _ c.if-bytes-set.true).0).0
 
 pub loop-n-init : goal.loop-n-init
 unfolding slots_spelled

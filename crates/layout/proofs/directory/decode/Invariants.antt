@@ -1,3 +1,4 @@
+-- After n turns the first n slots are those that the bytes spell.
 use Prim.Native.Nat.{◌≤◌, ◌-◌}
 use mathlib.Core.Path.{◌≡◌}
 use lib.ListN.{length, take}

@@ -1,4 +1,3 @@
--- : after b turns the first b sets stand in their places.
 use Prim.Native.Nat.{ℕ}
 use mathlib.Core.Path.{◌≡◌, refl, ap, ◌∙◌}
 use native.Mathlib.Omega.{arith}

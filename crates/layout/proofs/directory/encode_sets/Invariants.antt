@@ -1,3 +1,4 @@
+-- After b turns the first b sets stand in their places.
 use Prim.Native.Nat.{◌≤◌, ◌-◌}
 use mathlib.Core.Path.{◌≡◌}
 use lib.ListN.{length}

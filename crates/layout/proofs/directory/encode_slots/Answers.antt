@@ -1,4 +1,3 @@
--- : after n turns the bytes of the first n slots stand in front.
 use Prim.Native.Nat.{ℕ, ◌*◌}
 use mathlib.Core.Path.{◌≡◌, refl, ap, ◌∙◌}
 use mathlib.Core.List.{List, ◌++◌}

@@ -1,3 +1,4 @@
+-- After n turns the bytes of the first n slots stand in front.
 use Prim.Native.Nat.{◌≤◌, ◌-◌, ◌*◌}
 use mathlib.Core.Path.{◌≡◌}
 use mathlib.Core.List.{◌++◌}

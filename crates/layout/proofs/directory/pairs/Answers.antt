@@ -1,4 +1,3 @@
--- : after n turns the first n numbers hold the first n pairs.
 use mathlib.Core.Path.{◌≡◌, refl}
 use native.Mathlib.Omega.{arith}
 use native.Mathlib.Nat.{not-suc-le-zero}

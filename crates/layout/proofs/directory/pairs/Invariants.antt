@@ -1,3 +1,4 @@
+-- After n turns the first n numbers hold the first n pairs.
 use Prim.Native.Nat.{◌≤◌, ◌-◌}
 use mathlib.Core.Path.{◌≡◌}
 use lib.ListN.{length}

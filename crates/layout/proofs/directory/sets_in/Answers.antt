@@ -1,4 +1,3 @@
--- : after b turns the first b sets are those of the bytes.
 use mathlib.Core.Path.{◌≡◌, refl, sym, ◌∙◌}
 use native.Mathlib.Omega.{arith}
 use lib.ListN.{length-set}

@@ -1,3 +1,4 @@
+-- After b turns the first b sets are those of the bytes.
 use Prim.Native.Nat.{◌≤◌, ◌-◌}
 use mathlib.Core.Path.{◌≡◌}
 use lib.ListN.{length, take, drop}
