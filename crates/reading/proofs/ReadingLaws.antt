@@ -6,7 +6,6 @@ use mathlib.Core.Path.{◌≡◌, refl, ap, sym, ◌∙◌}
 use mathlib.Core.List.{List, [], ◌∷◌}
 use lib.ListN.{length}
 use Rattle.coherence.specs.declared.Call.{Call}
-use Rattle.tape_format.specs.declared.Record.{Record}
 use Rattle.tape_format.specs.declared.RecordRead.{RecordRead}
 use Rattle.tape_format.specs.declared.RecordRead.TheVariants as read
 use Rattle.tape_format.specs.Record.{record_at}
