@@ -1,4 +1,5 @@
 pub mod SevenLaws
 pub mod BackLaws
+pub mod NamesLaws
 pub mod ForthLaws
 pub mod NumberedLaws
