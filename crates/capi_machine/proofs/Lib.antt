@@ -1,3 +1,4 @@
 pub mod CallLaws
+pub mod NewestLaws
 pub mod PlaceLaws
 pub mod FollowLaws

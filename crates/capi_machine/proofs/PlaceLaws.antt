@@ -1,18 +1,18 @@
 -- Store and offset mark the bytes that peek shows.
-use Prim.Native.Nat.{ℕ, ◌+◌, ◌*◌, ◌%◌, ◌≤◌, ◌<◌}
+use Prim.Native.Nat.{ℕ, ◌≤◌}
 use mathlib.Core.Path.{◌≡◌, refl, sym, ap, ◌∙◌}
 use mathlib.Core.Bool.{Bool, true, false, cond}
 use mathlib.Core.List.{List}
 use native.Mathlib.Omega.{arith}
-use lib.Dec.{leb, ltb, eqb}
+use lib.Dec.{leb, eqb}
 use lib.ListN.{take, drop}
-use borrow.Author.Tests.{eq-eqb, ne_eqb, leb-true, lt-ltb, le-ltb}
+use borrow.Author.Tests.{eq-eqb, ne_eqb, leb-true}
 use Rattle.order.specs.Refusal.{first_refusal}
 use Rattle.coherence.specs.declared.Directory.{Directory}
 use Rattle.coherence.specs.Bytes.{block_at}
-use Rattle.coherence.specs.Slots.{place, owner_of, sound}
+use Rattle.coherence.specs.Slots.{sound}
 use Rattle.coherence.specs.Refusal.{sized, is_block, size_test, directory_test, target_test, peek_refusal}
-use Rattle.coherence.specs.Peek.{from_cache, newest_block, newest, peeked, peek_from_cache, peek_offset}
+use Rattle.coherence.specs.Peek.{from_cache, newest, peeked, peek_from_cache, peek_offset}
 use Rattle.crossing.proofs.CappedLaws.{caps}
 use Rattle.layout.specs.Directory.{decoded}
 use Rattle.capi_machine.specs.Call.{narrowed}
@@ -50,24 +50,6 @@ shown d m k b s o e = go (from_cache (decoded d) (narrowed b)) refl
 of_asked : (d m k : List ℕ) (b : ℕ) → peek_returned d m k b ≡ 0 → peeked (decoded d) m k (narrowed b) ≡ peeked (decoded d) m k b
 unfolding peek_returned
 of_asked d m k b e = ap (λ (n : ℕ). peeked (decoded d) m k n) (asked (decoded d) m k b e)
-
--- what an accepted peek leaves, by the first unit u that has the block EM
-pub from_cache_lem : (d m k : List ℕ) (b s o r u : ℕ) → r ≡ peek_refusal (decoded d) m k (narrowed b) → r ≡ 0 → u ≡ owner_of (decoded d) (narrowed b) → u < 4
-    → (0 ≡ peek_returned d m k b) × (1 ≡ store_left d m k b s) × (512 * u + 32 * (narrowed b % 16) ≡ offset_left d m k b o)
-unfolding peek_returned store_left offset_left peek_from_cache peek_offset from_cache newest_block place
-from_cache_lem d m k b s o r u e z h l =
-    let q : eqb (peek_refusal (decoded d) m k (narrowed b)) 0 ≡ true = rw e at (eq-eqb r 0 z) in
-    let t : ltb (owner_of (decoded d) (narrowed b)) 4 ≡ true = lt-ltb _ 4 (rw h at l) in
-    let x : 512 * u + 32 * (narrowed b % 16) ≡ 32 * (16 * owner_of (decoded d) (narrowed b) + narrowed b % 16) = omega arith in
-    (sym z ∙ e, rw (q, t), rw (q, t) x)
-
-pub from_memory : (d m k : List ℕ) (b s o r u : ℕ) → r ≡ peek_refusal (decoded d) m k (narrowed b) → r ≡ 0 → u ≡ owner_of (decoded d) (narrowed b) → 4 ≤ u
-    → (0 ≡ peek_returned d m k b) × (0 ≡ store_left d m k b s) × (32 * narrowed b ≡ offset_left d m k b o)
-unfolding peek_returned store_left offset_left peek_from_cache peek_offset from_cache newest_block
-from_memory d m k b s o r u e z h l =
-    let q : eqb (peek_refusal (decoded d) m k (narrowed b)) 0 ≡ true = rw e at (eq-eqb r 0 z) in
-    let t : ltb (owner_of (decoded d) (narrowed b)) 4 ≡ false = le-ltb _ 4 (rw h at l) in
-    (sym z ∙ e, rw (q, t), rw (q, t))
 
 left_alone : (d m k : List ℕ) (b s o : ℕ) → (peek_returned d m k b ≡ 0 → ⊥) → (store_left d m k b s ≡ s) × (offset_left d m k b o ≡ o)
 unfolding store_left offset_left

@@ -8,7 +8,7 @@ use Rattle.slots.proofs.OfSlots.{of_owner}
 use Rattle.layout.specs.Directory.{decoded}
 use Rattle.capi_machine.specs.Call.{narrowed}
 use Rattle.capi_machine.specs.Place.{peek_returned, store_left, offset_left}
-use Rattle.capi_machine.proofs.PlaceLaws.{from_cache_lem, from_memory}
+use Rattle.capi_machine.proofs.NewestLaws.{from_cache_lem, from_memory}
 use Rattle.capi_machine.proofs.trainer_peek.Goals as goal
 
 pub returns-then-refusal-ne0 : goal.returns-then-refusal-ne0
