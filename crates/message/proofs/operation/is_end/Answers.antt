@@ -1,4 +1,3 @@
-use borrow.Author.Rules.{rules}
 use Rattle.message_rules.specs.Operation.{ends}
 use Rattle.message.proofs.operation.is_end.Goals as goal
 

@@ -1,4 +1,3 @@
-use borrow.Author.Rules.{rules}
 use Rattle.message_rules.specs.Receiver.{state_allowed}
 use Rattle.message.proofs.receiver.is_allowed.Goals as goal
 

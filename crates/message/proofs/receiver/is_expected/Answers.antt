@@ -1,4 +1,3 @@
-use borrow.Author.Rules.{rules}
 use Rattle.message_rules.specs.Receiver.{is_expected}
 use Rattle.message.proofs.receiver.is_expected.Goals as goal
 

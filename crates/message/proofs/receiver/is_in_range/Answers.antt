@@ -1,4 +1,3 @@
-use borrow.Author.Rules.{rules}
 use Rattle.message_rules.specs.Receiver.{in_range}
 use Rattle.message.proofs.receiver.is_in_range.Goals as goal
 

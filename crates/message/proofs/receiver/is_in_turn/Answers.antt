@@ -1,4 +1,3 @@
-use borrow.Author.Rules.{rules}
 use Rattle.message_rules.specs.Receiver.{in_turn}
 use Rattle.message.proofs.receiver.is_in_turn.Goals as goal
 

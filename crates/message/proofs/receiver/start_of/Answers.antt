@@ -1,4 +1,3 @@
-use borrow.Author.Rules.{rules}
 use Rattle.message_rules.specs.Receiver.{start_of}
 use Rattle.message.proofs.receiver.start_of.Goals as goal
 

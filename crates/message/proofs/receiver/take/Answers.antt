@@ -1,4 +1,3 @@
-use borrow.Author.Rules.{rules}
 use Rattle.message_rules.specs.Receiver.{taken}
 use Rattle.message.proofs.receiver.take.Goals as goal
 

@@ -1,4 +1,3 @@
-use borrow.Author.Rules.{rules}
 use Rattle.message_rules.specs.Operation.{operation}
 use Rattle.message_rules.specs.Sender.{sequence_found}
 use Rattle.message_rules.proofs.SenderTests.{operation_found, operation_none}

@@ -1,4 +1,3 @@
-use borrow.Author.Rules.{rules}
 use borrow.Author.Tests.{eq-eqb, ne_eqb}
 use Rattle.message_rules.specs.Sender.{sequence_of}
 use Rattle.message.proofs.sender.sequence_of.Goals as goal
