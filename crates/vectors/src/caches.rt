@@ -1,5 +1,5 @@
 // Rows of the cache machine.
-use crate::text::{Row, show, show_all, show_byte, word};
+use crate::rows::{Row, show, show_all, show_byte, word};
 use coherence::Call;
 use std::io;
 

@@ -2,24 +2,24 @@
 // what must be printed: values of document 01, and of document 02 where it amends 01. A line that begins with a quotation mark is a heading.
 #![tactic(auto)]
 
-mod bus;
+mod buses;
 mod caches;
+mod rows;
 mod tapes;
-mod text;
 
 use input::read_input;
+use rows::{Row, parse, word};
 use std::io;
-use text::{Row, parse, word};
 
 // The answer to a row, which the first letter of its name chooses.
 fn answer(to: &impl Print, letter: u8, given: Row) -> io::Result<()> {
     match letter {
-        b'p' => bus::parity(to, given),
-        b'l' => bus::lanes(to, given),
-        b't' => bus::transfer(to, given),
-        b'a' => bus::answer(to, given),
-        b'c' => bus::class(to, given),
-        b'h' => bus::handler(to, given),
+        b'p' => buses::parity(to, given),
+        b'l' => buses::lanes(to, given),
+        b't' => buses::transfer(to, given),
+        b'a' => buses::answer(to, given),
+        b'c' => buses::class(to, given),
+        b'h' => buses::handler(to, given),
         b'w' => tapes::writing(to, given),
         b'm' => caches::machine(to, given),
         b'n' => caches::newest(to, given),

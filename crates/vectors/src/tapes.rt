@@ -1,5 +1,5 @@
 // Rows of the tape and the drill.
-use crate::text::{Row, show, show_bytes, show_wide, word};
+use crate::rows::{Row, show, show_bytes, show_wide, word};
 use std::io;
 
 // The numbers as bytes.

@@ -1,5 +1,5 @@
 // Rows of the bus and of its handler. Each answer begins with the number of the refusal.
-use crate::text::{Row, show_all};
+use crate::rows::{Row, show_all};
 use std::io;
 
 // A word, and a set of parity bits to check it with: its parity, the wrong bytes, how many.
