@@ -1,8 +1,7 @@
 -- The claims about the reading of every tape.
-use Prim.Native.Nat.{ℕ, zero, suc, ◌+◌, ◌-◌, ◌≤◌, ◌<◌}
-use native.Mathlib.Nat.{zero-add, suc-add}
+use Prim.Native.Nat.{ℕ, zero, suc, ◌+◌, ◌≤◌, ◌<◌}
 use native.Mathlib.Omega.{arith}
-use mathlib.Core.Path.{◌≡◌, refl, ap, sym, ◌∙◌}
+use mathlib.Core.Path.{◌≡◌, refl}
 use mathlib.Core.List.{List, [], ◌∷◌}
 use lib.ListN.{length}
 use Rattle.coherence.specs.declared.Call.{Call}
@@ -15,6 +14,7 @@ use Rattle.reading.specs.declared.Access.TheVariants.{Asks, Other}
 use Rattle.reading.specs.Reading.{Started, finished, and_more, read_on, read_from, read_all, access_of, and_calls, calls_of}
 use Rattle.reading.specs.Claims.{ReadsTo, items, AllAccepted, Claims}
 use Rattle.reading.proofs.RecordLaws.{Accepted, record_place, record_accepted}
+use Rattle.reading.proofs.EndLaws.{ends_at}
 
 -- ---- no call is refused
 
@@ -41,29 +41,6 @@ pub next_read : (t : List ℕ) (n at : ℕ) (x : RecordRead) → length t < n + 
 unfolding read_from
 next_read t zero at x h w e = absurd (omega arith)
 next_read t (suc f) at x h w e = (f, omega arith, rw e)
-
-one_step : (n : ℕ) (t : List ℕ) (at : ℕ) → length t < n + at → at ≤ length t → read_from (suc n) t at ≡ read_from n t at
-unfolding read_from read_on
-one_step zero t at h l = absurd (omega arith)
-one_step (suc n) t at h l = go (record_at t at) refl (λ next. one_step n t next)
-  where
-    go : (x : RecordRead) → record_at t at ≡ x → ((next : ℕ) → length t < n + next → next ≤ length t → read_from (suc n) t next ≡ read_from n t next)
-        → read_on at x (read_from (suc n) t) ≡ read_on at x (read_from n t)
-    go (read.Record r next) e more =
-        let p = record_place t at r next e in
-        ap (and_more at r) (more next (omega arith) p.1)
-    go read.Finished e more = refl
-    go (read.Refused number place) e more = refl
-
-many_steps : (k : ℕ) (t : List ℕ) → read_from (k + suc (length t)) t 0 ≡ read_all t
-unfolding read_all
-many_steps zero t = ap (λ (n : ℕ). read_from n t 0) (zero-add (suc (length t)))
-many_steps (suc k) t = ap (λ (n : ℕ). read_from n t 0) (suc-add k (suc (length t))) ∙ one_step (k + suc (length t)) t 0 (omega arith) (omega arith) ∙ many_steps k t
-
-ends_at : (n : ℕ) (t : List ℕ) → length t < n → read_from n t 0 ≡ read_all t
-ends_at n t h =
-    let k : (n - suc (length t)) + suc (length t) ≡ n = omega arith in
-    ap (λ (i : ℕ). read_from i t 0) (sym k) ∙ many_steps (n - suc (length t)) t
 
 reads_from : (n : ℕ) (t : List ℕ) (at : ℕ) → length t < n + at → at ≤ length t → ReadsTo t at (read_from n t at).records (read_from n t at).ending
 unfolding read_from read_on and_more ReadsTo
