@@ -7,10 +7,10 @@ use lib.Dec.{eqb}
 use borrow.Author.Tests.{eqb-true}
 use Rattle.order.specs.declared.Command.{Command}
 use Rattle.order.specs.declared.Command.TheVariants.{Read, ModifiedRead, Invalidate, Copyback, MemoryWrite}
-use Rattle.order.specs.declared.CommandFound.TheVariants.{Known, Unknown}
+use Rattle.std.specs.Prelude.{None, Some}
 use Rattle.order.specs.Command.{command_number, command_of, CommandNumbers}
 
-pub command_of_number : (c : Command) → command_of (command_number c) ≡ Known c
+pub command_of_number : (c : Command) → command_of (command_number c) ≡ Some c
 unfolding command_number command_of
 command_of_number Read = refl
 command_of_number ModifiedRead = refl
@@ -18,12 +18,12 @@ command_of_number Invalidate = refl
 command_of_number Copyback = refl
 command_of_number MemoryWrite = refl
 
-pub number_of_command : (n : ℕ) (c : Command) → command_of n ≡ Known c → command_number c ≡ n
+pub number_of_command : (n : ℕ) (c : Command) → command_of n ≡ Some c → command_number c ≡ n
 unfolding command_of command_number
 number_of_command n c e = go (eqb n 0) refl (eqb n 1) refl (eqb n 2) refl (eqb n 3) refl (eqb n 4) refl e
   where
     go : (t₀ : Bool) → eqb n 0 ≡ t₀ → (t₁ : Bool) → eqb n 1 ≡ t₁ → (t₂ : Bool) → eqb n 2 ≡ t₂ → (t₃ : Bool) → eqb n 3 ≡ t₃ → (t₄ : Bool) → eqb n 4 ≡ t₄
-        → cond t₀ (Known Read) (cond t₁ (Known ModifiedRead) (cond t₂ (Known Invalidate) (cond t₃ (Known Copyback) (cond t₄ (Known MemoryWrite) Unknown)))) ≡ Known c
+        → cond t₀ (Some Read) (cond t₁ (Some ModifiedRead) (cond t₂ (Some Invalidate) (cond t₃ (Some Copyback) (cond t₄ (Some MemoryWrite) None)))) ≡ Some c
         → command_number c ≡ n
     go true a t₁ b t₂ d t₃ f t₄ g e = let x : Read ≡ c = cc in rw (← x) (sym (eqb-true n 0 a))
     go false a true b t₂ d t₃ f t₄ g e = let x : ModifiedRead ≡ c = cc in rw (← x) (sym (eqb-true n 1 b))

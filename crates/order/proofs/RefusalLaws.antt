@@ -6,7 +6,7 @@ use mathlib.Core.Bool.{Bool, true, false, cond, ◌&&◌, and-eq-true_iff}
 use mathlib.Core.List.{List, [], ◌∷◌}
 use lib.Dec.{leb}
 use borrow.Author.Tests.{leb-true}
-use Rattle.order.specs.Refusal.{Test, first_refusal}
+use Rattle.order.specs.Refusal.{RefusalNumbers, Test, first_refusal}
 
 -- each of the tests passes
 abbrev pub Passes : List Test → Type 0
@@ -29,3 +29,6 @@ passed (t ∷ ts) n e =
         → (t.passes ≡ true) × Passes ts
     on true q h r e = (q, r e)
     on false q h r e = absurd (omega arith)
+
+pub refusal_numbers : RefusalNumbers
+refusal_numbers = record { numbers = refl }
