@@ -4,7 +4,7 @@ use mathlib.Core.Path.{◌≡◌, refl, ap, ◌∙◌}
 use mathlib.Core.List.{List, [], ◌∷◌, map}
 use lib.ListN.{length, take}
 use Rattle.order.specs.Flag.{flag}
-use Rattle.coherence.specs.declared.Answer.{Answer}
+use Rattle.coherence.specs.Answer.{Answer}
 use Rattle.coherence.specs.Bytes.{block_at, put_block, word_at, put_word}
 use Rattle.coherence.specs.Settings.{is_through, through, drill_settings}
 use Rattle.coherence.specs.Slots.{place, slot_at, set_slot, state_number, holds, modified, units_with, holders_of, held_by, table, kept, owner_of, all_below, fits, alone, slot_rule, kind_rule, sound_slots, sound_kinds, sound_sets, sound, cold_directory}

@@ -7,6 +7,7 @@ pub mod Weights
 pub mod Rules
 pub mod RefusalLaws
 pub mod PlainLaws
+pub mod AnswerLaws
 pub mod Counts
 pub mod Invariant
 pub mod Actions

@@ -7,8 +7,7 @@ use borrow.Author.Tests.{eq-eqb}
 use Rattle.coherence.specs.declared.Settings.{Settings}
 use Rattle.coherence.specs.declared.Directory.{Directory}
 use Rattle.coherence.specs.declared.Call.{Call}
-use Rattle.coherence.specs.declared.Answer.{Answer}
-use Rattle.coherence.specs.declared.Start.{Start}
+use Rattle.coherence.specs.Answer.{Answer, Start}
 use Rattle.coherence.specs.Slots.{cold_directory}
 use Rattle.coherence.specs.Access.{ready}
 use Rattle.coherence.specs.Refusal.{start_refusal}

@@ -11,7 +11,7 @@ use Rattle.coherence.specs.declared.Settings.{Settings}
 use Rattle.coherence.specs.declared.Directory.{Directory}
 use Rattle.coherence.specs.declared.Call.{Call}
 use Rattle.coherence.specs.declared.Call.TheVariants.{Load, Store, Flush}
-use Rattle.coherence.specs.declared.Answer.{Answer}
+use Rattle.coherence.specs.Answer.{Answer}
 use Rattle.coherence.specs.Bytes.{block_at, put_word}
 use Rattle.coherence.specs.Slots.{place, slot_at, slot_of, modified, sound, Exclusive}
 use Rattle.coherence.specs.Access.{Run, ready, flush}

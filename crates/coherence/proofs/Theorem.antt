@@ -13,8 +13,7 @@ use Rattle.coherence.specs.declared.Settings.{Settings}
 use Rattle.coherence.specs.declared.Directory.{Directory}
 use Rattle.coherence.specs.declared.Call.{Call}
 use Rattle.coherence.specs.declared.Call.TheVariants.{Load, Store, Flush}
-use Rattle.coherence.specs.declared.Answer.{Answer}
-use Rattle.coherence.specs.declared.Start.{Start}
+use Rattle.coherence.specs.Answer.{Answer, Start}
 use Rattle.coherence.specs.Bytes.{block_at}
 use Rattle.coherence.specs.Slots.{place, slot_at, holds, owner_of, sound, cold_directory}
 use Rattle.coherence.specs.Refusal.{is_block, peek_refusal}

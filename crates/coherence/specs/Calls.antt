@@ -1,7 +1,8 @@
 -- What cold start and each call answer and leave, refusals included: the definitions that the contracts cite. A call is given the directory d,
 -- the memory store m and the cache store k.
-use Rattle.std.specs.Prelude.{ℕ, Bool, false, cond, List, [], ◌∷◌, ◌++◌, length, take, replicate, eqb}
-use Rattle.order.specs.Refusal.{accepted}
+use Rattle.std.specs.Prelude.{ℕ, ◌≡◌, Bool, false, Result, Ok, Err, cond, List, [], ◌∷◌, ◌++◌, length, take, replicate, eqb}
+use Rattle.order.specs.declared.Refusal.{Refusal}
+use Rattle.order.specs.Refusal.{refusal_number, accepted}
 use Rattle.order.specs.declared.Command.TheVariants.{Read}
 use Rattle.order.specs.declared.Order.{Order}
 use Rattle.coherence.specs.declared.Settings.{Settings}
@@ -9,8 +10,8 @@ use Rattle.coherence.specs.declared.Directory.{Directory}
 use Rattle.coherence.specs.declared.Call.{Call}
 use Rattle.coherence.specs.declared.Call.TheVariants.{Load, Store, Flush}
 use Rattle.coherence.specs.declared.Orders.{Orders}
-use Rattle.coherence.specs.declared.Answer.{Answer}
-use Rattle.coherence.specs.declared.Start.{Start}
+use Rattle.coherence.specs.declared.Accepted.{Accepted}
+use Rattle.coherence.specs.Answer.{Answer, Start}
 use Rattle.coherence.specs.Bytes.{store_size, word_at}
 use Rattle.coherence.specs.Slots.{kept, cold_directory}
 use Rattle.coherence.specs.Access.{Run, ready, load, store, flush, cache_place}
@@ -88,6 +89,23 @@ start_answer g m k = record { refusal = start_refusal m k; directory = cold_dire
 -- "cache store all zeros, memory as lent"; a refused cold start leaves both as they were
 unfoldable pub cache_started : List ℕ → List ℕ → List ℕ
 cache_started m k = cond (eqb (start_refusal m k) accepted) (replicate store_size 0) k
+
+-- ---- the code's answers in document 01's numbers
+
+-- the answer of a call that is given the directory d: "A refused call gives its number, no orders, .. every other number 0", and leaves the directory
+abbrev pub told : Directory → Result Accepted Refusal → Answer
+told d (Ok a) = record { refusal = accepted; value = a.value; orders = a.orders; directory = a.directory }
+told d (Err refusal) = record { refusal = refusal_number refusal; value = 0; orders = packed []; directory = d }
+
+-- the answer of a cold start with the settings g: refused, "its directory is all invalid"
+abbrev pub started : Settings → Result Directory Refusal → Start
+started g (Ok d) = record { refusal = accepted; directory = d }
+started g (Err refusal) = record { refusal = refusal_number refusal; directory = cold_directory g }
+
+-- different answers of the code are told differently
+pub record TellsApart : Type 0 where
+  pub calls : (d : Directory) (r s : Result Accepted Refusal) → told d r ≡ told d s → r ≡ s
+  pub starts : (g : Settings) (r s : Result Directory Refusal) → started g r ≡ started g s → r ≡ s
 
 -- ---- a list of calls
 

@@ -7,8 +7,7 @@ use Rattle.coherence.specs.declared.Settings.{Settings}
 use Rattle.coherence.specs.declared.Directory.{Directory}
 use Rattle.coherence.specs.declared.Call.{Call}
 use Rattle.coherence.specs.declared.Call.TheVariants.{Load, Store, Flush}
-use Rattle.coherence.specs.declared.Answer.{Answer}
-use Rattle.coherence.specs.declared.Start.{Start}
+use Rattle.coherence.specs.Answer.{Answer, Start}
 use Rattle.coherence.specs.Bytes.{store_size, block_at}
 use Rattle.coherence.specs.Slots.{Exclusive}
 use Rattle.coherence.specs.Refusal.{peek_refusal}

@@ -6,7 +6,7 @@ use Rattle.order.specs.declared.Command.TheVariants.{Read, Copyback}
 use Rattle.order.specs.declared.Order.{Order}
 use Rattle.coherence.specs.declared.Call.{Call}
 use Rattle.coherence.specs.declared.Call.TheVariants.{Load, Store, Flush}
-use Rattle.coherence.specs.declared.Answer.{Answer}
+use Rattle.coherence.specs.Answer.{Answer}
 use Rattle.coherence.specs.declared.Slot.TheVariants.{Invalid, Shared, Modified}
 use Rattle.coherence.specs.Bytes.{store_size, block_at}
 use Rattle.coherence.specs.Settings.{drill_settings}

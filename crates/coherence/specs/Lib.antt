@@ -4,6 +4,7 @@ pub mod Settings
 pub mod Slots
 pub mod Access
 pub mod Refusal
+pub mod Answer
 pub mod Calls
 pub mod Peek
 pub mod PlainMemory

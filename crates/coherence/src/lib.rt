@@ -5,7 +5,7 @@ use order::Order;
 
 // One slot of a unit's cache, after document 01, "The directory": invalid (I), shared and unmodified (SU), or exclusive and
 // modified (EM). The valid cases carry the block number; an invalid slot has none to carry, and its block counts as 0.
-#[derive(Clone, Copy)]
+#[derive(Clone, Copy, Debug, PartialEq, Eq)]
 pub enum Slot {
     Invalid,
     Shared(u8),
@@ -20,7 +20,7 @@ pub struct Entry {
 
 // What a processor board's cache does with a store: a copyback cache keeps the word until a copyback, a write-through cache (ISO/IEC 14576, 2.1,
 // item 26) gives it to memory at once.
-#[derive(Clone, Copy)]
+#[derive(Clone, Copy, Debug, PartialEq, Eq)]
 pub enum Kind {
     Copyback,
     WriteThrough,
@@ -57,25 +57,18 @@ pub enum Call {
     Flush { unit: u8, block: u8 },
 }
 
-// A call's orders in sequence: the first `count` places of the list.
+// A call's orders in sequence: the first `count` places of the list. The theorem `AnswersOrders` and the definition `packed` speak of the two, and with no
+// heap there is no list of its own length.
 #[derive(Clone, Copy)]
 pub struct Orders {
     pub count: usize,
     pub list: [Order; 4],
 }
 
-// What a call answers. `refusal` is 0 if it was accepted; `directory` is the one that it leaves.
+// What an accepted call answers: the value that was loaded, the call's orders, and the directory that it leaves.
 #[derive(Clone, Copy)]
-pub struct Answer {
-    pub refusal: u8,
+pub struct Accepted {
     pub value: u32,
     pub orders: Orders,
-    pub directory: Directory,
-}
-
-// What a cold start answers.
-#[derive(Clone, Copy)]
-pub struct Start {
-    pub refusal: u8,
     pub directory: Directory,
 }
