@@ -2,13 +2,14 @@
 use Prim.Native.Nat.{ℕ, zero, suc, ◌+◌, ◌-◌, ◌*◌, ◌/◌, ◌%◌, ◌^◌, ◌<◌, ◌≤◌}
 use native.Mathlib.Nat.{div-lt_iff_lt-mul, pow-suc}
 use native.Mathlib.Omega.{arith}
-use mathlib.Core.Path.{◌≡◌, refl, ap, subst, ◌∙◌}
+use mathlib.Core.Path.{◌≡◌, refl, sym, ap, subst, ◌∙◌}
 use mathlib.Core.Logic.{◌⊎◌, inl, inr, ⊎_elim}
 use mathlib.Core.Bool.{Bool, true, false}
 use lib.Dec.{ltb, lit<}
 use mathlib.Core.List.{List, [], ◌∷◌, ◌++◌}
 use borrow.Author.Tests.{lt-ltb, le-ltb, ltb-true, ltb-false}
-use lib.ListN.{length, get_or, length-append, get_or-append}
+use lib.ListN.{length, get_or, set, drop, length-drop, length-append, get_or-append}
+use Rattle.std.proofs.lemmas.List.{set-append_right}
 use Rattle.text.specs.Decimal.{digits_in, decimal, meaning_after, meaning, Digits, Spelling}
 
 lt_or_le : (a b : ℕ) → (a < b) ⊎ (b ≤ a)
@@ -44,6 +45,32 @@ length_one n h = ap length (one_digit n h)
 
 pub length_more : (n : ℕ) → 10 ≤ n → n < 2 ^ 64 → length (decimal n) ≡ length (decimal (n / 10)) + 1
 length_more n h f = ap length (more_digits n h f) ∙ length-append (decimal (n / 10)) ((48 + n % 10) ∷ [])
+
+-- ---- a space of as many bytes as the number has digits, with the last of them put in
+
+set_one : (l : List ℕ) (k a : ℕ) → length l ≡ 1 → k ≡ 0 → set l k a ≡ a ∷ []
+set_one [] k a e f = absurd (omega arith)
+set_one (x ∷ []) k a e f = rw f refl
+set_one (x ∷ (y ∷ l)) k a e f = absurd (omega arith)
+
+set_last : (front xs : List ℕ) (n a : ℕ) → length xs ≡ n + 1 → length front ≡ n → set (front ++ drop n xs) n a ≡ front ++ (a ∷ [])
+set_last front xs n a e f =
+    set-append_right front (drop n xs) n n a f (omega arith)
+    ∙ ap (λ (t : List ℕ). front ++ t) (set_one (drop n xs) (n - n) a (omega (arith, length-drop n xs)) (omega arith))
+
+-- behind the digits of n / 10, where n has more than one
+pub last_digit : (front xs : List ℕ) (n : ℕ) → 10 ≤ n → n < 2 ^ 64 → length xs ≡ length (decimal n) → front ≡ decimal (n / 10)
+    → set (front ++ drop (length xs - 1) xs) (length xs - 1) (48 + n % 10) ≡ decimal n
+last_digit front xs n h f e d =
+    set_last front xs (length xs - 1) (48 + n % 10) (omega (arith, length_more n h f)) (omega (arith, length_more n h f, ap length d))
+    ∙ ap (λ (t : List ℕ). t ++ ((48 + n % 10) ∷ [])) d ∙ sym (more_digits n h f)
+
+-- alone
+pub only_digit : (xs : List ℕ) (n : ℕ) → n < 10 → length xs ≡ length (decimal n) → set xs (length xs - 1) (48 + n % 10) ≡ decimal n
+only_digit xs n h e =
+    let k : n % 10 ≡ n = omega arith in
+    let one : length xs ≡ 1 = e ∙ length_one n h in
+    set_one xs (length xs - 1) (48 + n % 10) one (omega arith) ∙ rw k (sym (one_digit n h))
 
 -- a number below 10 ^ suc k has at most suc k digits
 short : (f k n : ℕ) → n < 10 ^ suc k → length (digits_in f n) ≤ suc k

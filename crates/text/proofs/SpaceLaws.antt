@@ -1,14 +1,14 @@
 -- Laws of bytes put into a space.
-use Prim.Native.Nat.{ℕ, suc, ◌+◌, ◌-◌, ◌≤◌, ◌<◌}
+use Prim.Native.Nat.{ℕ, suc, ◌+◌, ◌≤◌}
 use native.Mathlib.Nat.{add-zero, add-suc, suc-add}
-use native.Mathlib.Omega.{arith}
-use mathlib.Core.Path.{◌≡◌, refl, sym, ◌∙◌}
-use mathlib.Core.List.{List, [], ◌∷◌, ◌++◌}
+use mathlib.Core.Path.{◌≡◌, sym, ◌∙◌}
+use mathlib.Core.List.{List, [], ◌∷◌, ◌++◌, append_assoc}
 use lib.ListN.{length, set}
-use lib.Seq.{sets}
+use lib.Seq.{sets, sets-eq, drop-drop}
 use mathlib.Core.Bool.{Bool, true, false}
 use lib.Dec.{leb}
-use borrow.Author.Tests.{le-leb, lt-leb, leb-true, leb-false}
+use borrow.Author.Tests.{leb-true}
+use borrow.Rule.Slice.PartMut.{put_mid}
 use Rattle.text.specs.Space.{placed}
 
 -- one run of bytes after another is both at once
@@ -28,20 +28,12 @@ pub placed_none : (xs : List ℕ) (at : ℕ) (s : List ℕ) → leb (at + length
 unfolding placed
 placed_none xs at s h = rw h
 
--- `at` within what a space has beside `size` bytes, or `size` bytes at `at` within the space, is one test
-pub leb_beside : (at size room : ℕ) → size ≤ room → leb at (room - size) ≡ leb (at + size) room
-leb_beside at size room h = go (leb at (room - size)) refl
-  where
-    go : (t : Bool) → leb at (room - size) ≡ t → leb at (room - size) ≡ leb (at + size) room
-    go true e =
-        let l = leb-true at (room - size) e in
-        let k : at + size ≤ room = omega arith in
-        e ∙ sym (le-leb (at + size) room k)
-    go false e =
-        let l = leb-false at (room - size) e in
-        let k : room < at + size = omega arith in
-        e ∙ sym (lt-leb (at + size) room k)
+-- a part of the space that has the place and the length of the bytes, when it holds them
+pub part_sets : (xs s t : List ℕ) (at n : ℕ) → at + length s ≤ length xs → n ≡ length s → t ≡ s → put_mid at n xs t ≡ sets xs at s
+part_sets xs s t at n h e f = rw (sets-eq s xs at h, e, f, drop-drop, append_assoc)
 
--- the same with no size to spare
-pub leb_over : (at size room : ℕ) → room < size → leb (at + size) room ≡ false
-leb_over at size room h = lt-leb (at + size) room (omega arith)
+pub part_placed : (xs s t : List ℕ) (at n : ℕ) (b : Bool) → b ≡ leb (at + length s) (length xs) → b ≡ true → n ≡ length s → t ≡ s
+    → put_mid at n xs t ≡ placed xs at s
+part_placed xs s t at n b r h e f =
+    let room : leb (at + length s) (length xs) ≡ true = sym r ∙ h in
+    part_sets xs s t at n (leb-true _ _ room) e f ∙ sym (placed_room xs at s room)

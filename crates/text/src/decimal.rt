@@ -1,12 +1,12 @@
 // Numbers in decimal.
-ghost use Rattle.std.specs.Prelude.{◌≡◌, ◌+◌, ◌≤◌, length};
-ghost use Rattle.std.proofs.lemmas.List.Edits.{sets};
+ghost use Rattle.std.specs.Prelude.{◌≡◌, length};
 ghost use Rattle.text.specs.Decimal.{decimal};
 ghost use Rattle.text.specs.Space.{placed};
 
 use crate::space::has_room;
 
 // How many digits `n` has.
+#[tactic(auto, using(crate::proofs::DecimalLaws::length_one, crate::proofs::DecimalLaws::length_more, crate::proofs::DecimalLaws::at_most_20))]
 pub fn decimal_length(n: u64) -> usize
     ensures { result ≡ length (decimal n) }
 {
@@ -17,28 +17,27 @@ pub fn decimal_length(n: u64) -> usize
     }
 }
 
-// Puts the digits of `n` into `out` from the place `at` on; the place after them.
-fn put_digits(out: &mut [u8], at: usize, n: u64) -> usize
-    requires { at + length (decimal n) ≤ length out.old }
-    ensures { (result ≡ at + length (decimal n)) × (out.new ≡ sets out.old at (decimal n)) }
+// Fills `out` with the digits of `n`.
+#[tactic(auto, using(crate::proofs::DecimalLaws::one_digit, crate::proofs::DecimalLaws::more_digits, crate::proofs::DecimalLaws::length_one, crate::proofs::DecimalLaws::length_more))]
+fn put_digits(out: &mut [u8], n: u64)
+    requires { length out.old ≡ length (decimal n) }
+    ensures { out.new ≡ decimal n }
 {
+    let last = out.len() - 1;
     if 9 < n {
-        let next = put_digits(out, at, n / 10);
-        out[next] = 48 + (n % 10) as u8;
-        next + 1
-    } else {
-        out[at] = 48 + n as u8;
-        at + 1
+        put_digits(&mut out[..last], n / 10);
     }
+    out[last] = b'0' + (n % 10) as u8;
 }
 
 // Puts the digits of `n` into `out` from the place `at` on, where all of them have room. The answer is how many they are.
+#[tactic(auto, using(crate::proofs::SpaceLaws::part_placed, crate::proofs::SpaceLaws::placed_none))]
 pub fn put_decimal(out: &mut [u8], at: usize, n: u64) -> usize
     ensures { (result ≡ length (decimal n)) × (out.new ≡ placed out.old at (decimal n)) }
 {
     let size = decimal_length(n);
     if has_room(out.len(), at, size) {
-        put_digits(out, at, n);
+        put_digits(&mut out[at..at + size], n);
     }
     size
 }
