@@ -1,2 +1,3 @@
 -- What the crates for other languages share.
 pub mod Capped
+pub mod Narrow
