@@ -1,45 +1,51 @@
-// The tests of a call, in their order, and the number of the first that fails.
+// The tests of a call, in their order, and the refusal of the first that fails.
 #![tactic(auto)]
 
 ghost use Rattle.std.specs.Prelude.{◌≡◌};
+ghost use Rattle.order.specs.Refusal.{number_of};
 ghost use Rattle.coherence.specs.Refusal.{sized, is_address, call_refusal};
 
 use coherence::Directory;
-use order::{BAD_ADDRESS, BROKEN_DIRECTORY, NO_UNIT, WRONG_SIZE};
+use order::Refusal;
 use soundness::is_sound;
 
+#[tactic(auto, unfolding(coherence::specs::Refusal::sized))]
 pub fn is_sized(memory: &[u8], cache: &[u8]) -> bool
     ensures { result ≡ sized memory.now cache.now }
 {
-    if memory.len() == 2048 {
-        cache.len() == 2048
-    } else {
-        false
-    }
+    memory.len() == 2048 && cache.len() == 2048
 }
 
+#[tactic(auto, unfolding(coherence::specs::Refusal::is_address))]
 pub fn is_address(address: u32) -> bool
     ensures { result ≡ is_address address }
 {
-    if address % 4 == 0 {
-        address <= 2044
-    } else {
-        false
-    }
+    address % 4 == 0 && address <= 2044
 }
 
-// The number of the first test that fails, 0 if none does. `good` says that the address or block is one of the machine's.
-pub fn refusal_of(directory: Directory, memory: &[u8], cache: &[u8], unit: u8, good: bool) -> u8
-    ensures { result ≡ call_refusal directory memory.now cache.now unit good }
+// Refuses as the first test that fails. `good` says that the address or block is one of the machine's.
+#[tactic(auto, unfolding(coherence::specs::Refusal::is_unit), using(coherence::proofs::RefusalLaws::call_tests))]
+pub fn check_call(
+    directory: Directory,
+    memory: &[u8],
+    cache: &[u8],
+    unit: u8,
+    good: bool,
+) -> Result<(), Refusal>
+    ensures { number_of result ≡ call_refusal directory memory.now cache.now unit good }
 {
     if !is_sized(memory, cache) {
-        return WRONG_SIZE;
+        return Err(Refusal::WrongSize);
     }
     if !is_sound(directory) {
-        return BROKEN_DIRECTORY;
+        return Err(Refusal::BrokenDirectory);
     }
     if unit > 3 {
-        return NO_UNIT;
+        return Err(Refusal::NoUnit);
     }
-    if good { 0 } else { BAD_ADDRESS }
+    if good {
+        Ok(())
+    } else {
+        Err(Refusal::BadAddress)
+    }
 }
