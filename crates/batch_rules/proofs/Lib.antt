@@ -1,4 +1,5 @@
 -- The laws of lists of accesses.
+pub mod OutcomeLaws
 pub mod Before
 pub mod RanLaws
 pub mod Sentences

@@ -15,7 +15,7 @@ use Rattle.coherence.specs.Calls.{refusal, answer, memory_after, cache_after, af
 use Rattle.coherence.proofs.Shapes.{answer_slots, answer_settings, answer_sets}
 use Rattle.crossing.proofs.CappedLaws.{caps}
 use Rattle.batch_rules.specs.declared.Access.{Access}
-use Rattle.batch_rules.specs.declared.Outcome.{Outcome}
+use Rattle.batch_rules.specs.Outcome.{Outcome}
 use Rattle.batch_rules.specs.Batch.{Batch, batch, calls_of, before, made, ran, none, opened, batch_result}
 use Rattle.batch_rules.specs.Numbers.{is_kind, call_from, kind_at, access_at, count_of, known, unknown, refused_by, opened_numbers, ran_numbers, numbers_result, access_numbers, numbers_of, Fit, AllFit, NumbersSay}
 use Rattle.batch_rules.proofs.RanLaws.{ran_none, ran_still}

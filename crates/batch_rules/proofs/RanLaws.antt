@@ -17,7 +17,7 @@ use Rattle.coherence.specs.Calls.{refusal, answer, memory_after, cache_after, an
 use Rattle.coherence.specs.Demand3.{Refused, orders_in, orders_given}
 use Rattle.coherence.proofs.Counts.{answers_orders, refused}
 use Rattle.batch_rules.specs.declared.Access.{Access}
-use Rattle.batch_rules.specs.declared.Outcome.{Outcome}
+use Rattle.batch_rules.specs.Outcome.{Outcome}
 use Rattle.batch_rules.specs.Batch.{batch, calls_of, before, number, made, ran}
 
 pub answered_few : (r : Answer) (d : Directory) (m k : List ℕ) (c : Call) → r ≡ answer d m k c → r.orders.count ≤ 4

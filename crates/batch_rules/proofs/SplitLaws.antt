@@ -15,7 +15,7 @@ use Rattle.coherence.specs.declared.Answer.{Answer}
 use Rattle.coherence.specs.Calls.{answer, memory_after, cache_after, answers}
 use Rattle.coherence.specs.Demand3.{orders_given}
 use Rattle.batch_rules.specs.declared.Access.{Access}
-use Rattle.batch_rules.specs.declared.Outcome.{Outcome}
+use Rattle.batch_rules.specs.Outcome.{Outcome}
 use Rattle.batch_rules.specs.Batch.{Batch, batch, calls_of, before, made, ran, none, opened, batch_result}
 use Rattle.batch_rules.specs.Split.{joined, continued, SplitsAnywhere}
 use Rattle.batch_rules.proofs.Before.{before_first, calls_counted, values_counted, orders_few}

@@ -8,7 +8,7 @@ use Rattle.coherence.specs.declared.Call.{Call}
 use Rattle.coherence.specs.Calls.{refusal, answer, memory_after, cache_after, answers, after_all}
 use Rattle.coherence.specs.Demand3.{orders_given}
 use Rattle.batch_rules.specs.declared.Access.{Access}
-use Rattle.batch_rules.specs.declared.Outcome.{Outcome}
+use Rattle.batch_rules.specs.Outcome.{Outcome}
 
 unfoldable pub calls_of : List Access → List Call
 calls_of l = map (λ a. a.call) l

@@ -11,7 +11,7 @@ use Rattle.coherence.specs.declared.Start.{Start}
 use Rattle.coherence.specs.PlainMemory.{Reply, plain_replies}
 use Rattle.coherence.specs.Demand3.{Started, Session, Demand3, loads, stores, per_store}
 use Rattle.batch_rules.specs.declared.Access.{Access}
-use Rattle.batch_rules.specs.declared.Outcome.{Outcome}
+use Rattle.batch_rules.specs.Outcome.{Outcome}
 use Rattle.batch_rules.specs.Batch.{batch, calls_of, batch_result}
 
 -- a call: its list, the space for values before and after it, and its outcome

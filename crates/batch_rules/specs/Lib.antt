@@ -1,4 +1,5 @@
 -- A list of accesses in one call.
+pub mod Outcome
 pub mod Batch
 pub mod Sentences
 pub mod Split

@@ -7,7 +7,7 @@ use Rattle.coherence.specs.declared.Call.{Call}
 use Rattle.coherence.specs.declared.Call.TheVariants.{Load, Store, Flush}
 use Rattle.crossing.specs.Capped.{capped}
 use Rattle.batch_rules.specs.declared.Access.{Access}
-use Rattle.batch_rules.specs.declared.Outcome.{Outcome}
+use Rattle.batch_rules.specs.Outcome.{Outcome}
 use Rattle.batch_rules.specs.Batch.{Batch, batch, ran, none, opened, batch_result}
 
 -- the kinds that there are

@@ -2,18 +2,19 @@
 #![tactic(auto)]
 
 use coherence::{Call, Directory};
+use order::Refusal;
 
-// An access as a list holds it.
+// An access as a list holds it. Kept: a list is a slice of structs, as document 01 asks.
 #[derive(Clone, Copy)]
 pub struct Access {
     pub call: Call,
 }
 
-// What a list of accesses answers. `refusal` is 0 if the whole list was accepted. `index` is how many accesses were made: the index of the refused one, or
-// the list's length. `orders` counts the orders of those made; `directory` is the one that they leave.
+// What a list of accesses answers: on a refusal too, `index` is how many accesses were made, which is the index of the refused one or the list's length,
+// `orders` counts the orders of those made, and `directory` is the one that they leave.
 #[derive(Clone, Copy)]
 pub struct Outcome {
-    pub refusal: u8,
+    pub refusal: Option<Refusal>,
     pub index: usize,
     pub orders: usize,
     pub directory: Directory,
