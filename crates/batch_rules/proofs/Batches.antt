@@ -11,7 +11,7 @@ use lib.Seq.{sets, sets-eq, take_at}
 use borrow.Author.Tests.{ne_eqb, eqb-false}
 use Rattle.coherence.specs.declared.Directory.{Directory}
 use Rattle.coherence.specs.declared.Call.{Call}
-use Rattle.coherence.specs.declared.Answer.{Answer}
+use Rattle.coherence.specs.Answer.{Answer}
 use Rattle.coherence.specs.Refusal.{sized, is_unit}
 use Rattle.coherence.specs.Slots.{sound}
 use Rattle.coherence.specs.Access.{ready}

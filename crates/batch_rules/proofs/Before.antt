@@ -9,7 +9,7 @@ use lib.ListN.{length, take, drop, length-map}
 use borrow.Author.Tests.{eqb-true, eqb-false}
 use Rattle.coherence.specs.declared.Directory.{Directory}
 use Rattle.coherence.specs.declared.Call.{Call}
-use Rattle.coherence.specs.declared.Answer.{Answer}
+use Rattle.coherence.specs.Answer.{Answer}
 use Rattle.coherence.specs.Access.{ready}
 use Rattle.coherence.specs.Calls.{refusal, answer, memory_after, cache_after, answers, after_all}
 use Rattle.coherence.specs.Demand3.{Each, orders_in, orders_given}

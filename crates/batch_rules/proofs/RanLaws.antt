@@ -11,7 +11,7 @@ use lib.ListN.{length, set}
 use borrow.Author.Tests.{eq-eqb, ne_eqb, eqb-true}
 use Rattle.coherence.specs.declared.Directory.{Directory}
 use Rattle.coherence.specs.declared.Call.{Call}
-use Rattle.coherence.specs.declared.Answer.{Answer}
+use Rattle.coherence.specs.Answer.{Answer}
 use Rattle.coherence.specs.Access.{ready}
 use Rattle.coherence.specs.Calls.{refusal, answer, memory_after, cache_after, answers, after_all}
 use Rattle.coherence.specs.Demand3.{Refused, orders_in, orders_given}

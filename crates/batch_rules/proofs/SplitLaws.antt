@@ -11,7 +11,7 @@ use lib.Seq.{sets, sets-eq, drop-drop, length-sets}
 use borrow.Author.Tests.{le-leb, eq-eqb, eqb-true, eqb-false}
 use Rattle.coherence.specs.declared.Directory.{Directory}
 use Rattle.coherence.specs.declared.Call.{Call}
-use Rattle.coherence.specs.declared.Answer.{Answer}
+use Rattle.coherence.specs.Answer.{Answer}
 use Rattle.coherence.specs.Calls.{answer, memory_after, cache_after, answers}
 use Rattle.coherence.specs.Demand3.{orders_given}
 use Rattle.batch_rules.specs.declared.Access.{Access}

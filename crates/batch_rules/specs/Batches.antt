@@ -6,8 +6,8 @@ use Rattle.order.specs.Refusal.{accepted, no_room}
 use Rattle.coherence.specs.declared.Settings.{Settings}
 use Rattle.coherence.specs.declared.Directory.{Directory}
 use Rattle.coherence.specs.declared.Call.{Call}
-use Rattle.coherence.specs.declared.Answer.{Answer}
-use Rattle.coherence.specs.declared.Start.{Start}
+use Rattle.coherence.specs.Answer.{Answer}
+use Rattle.coherence.specs.Answer.{Start}
 use Rattle.coherence.specs.PlainMemory.{Reply, plain_replies}
 use Rattle.coherence.specs.Demand3.{Started, Session, Demand3, loads, stores, per_store}
 use Rattle.batch_rules.specs.declared.Access.{Access}
