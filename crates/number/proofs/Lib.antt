@@ -1,4 +1,5 @@
 pub mod Examples
+pub mod AnswerLaws
 pub mod GroupLaws
 pub mod StandsLaws
 pub mod ReaderLaws

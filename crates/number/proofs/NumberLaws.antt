@@ -9,8 +9,9 @@ use lib.ListN.{length, get_or}
 use lib.Dec.{ltb, leb}
 use borrow.Author.Tests.{ltb-true, ltb-false, leb-true, leb-false, lt-ltb, le-ltb}
 use Rattle.number.specs.Number.{groups, last, Groups, Value, Cut, Bad, limit_of, carried, read_groups, refusing, number_at, spell_groups, spell, Bytes}
-use Rattle.number.specs.declared.NumberRead.TheVariants.{Number}
+use Rattle.std.specs.Prelude.{Ok}
 use Rattle.number.specs.Spelling.{SpellsEach, SpellsOnly}
+use Rattle.number.proofs.AnswerLaws.{ok_pair}
 use Rattle.number.proofs.GroupLaws.{step_ends, step_more, top, top_above, limit_small}
 use Rattle.number.proofs.StandsLaws.{Stands, stands_in, stands_take}
 
@@ -131,21 +132,21 @@ unfolding limit top
 within_64_bits n h = omega arith
 
 -- the two laws of a number, and that reading moves on
-pub number_of_spelled : (n : ℕ) (tape : List ℕ) (p : ℕ) → n < limit → Stands tape (spell n) p → number_at tape p ≡ Number n (p + length (spell n))
+pub number_of_spelled : (n : ℕ) (tape : List ℕ) (p : ℕ) → n < limit → Stands tape (spell n) p → number_at tape p ≡ Ok (n, p + length (spell n))
 unfolding number_at spell limit refusing
 number_of_spelled n tape p l s = ap (refusing p) (read_spelled last (omega arith) (groups - 1) n tape p l s)
 
-inv_refusing : (p : ℕ) (g : Groups) (n q : ℕ) → refusing p g ≡ Number n q → g ≡ Value n q
+inv_refusing : (p : ℕ) (g : Groups) (n q : ℕ) → refusing p g ≡ Ok (n, q) → g ≡ Value n q
 unfolding refusing
-inv_refusing p (Value v r) n q e = cc
+inv_refusing p (Value v r) n q e = let (a, b) = ok_pair e in rw (a, b)
 inv_refusing p Cut n q e = absurd (let z : ◌≡◌ {A = ℕ} 0 1 = cc in omega arith)
 inv_refusing p Bad n q e = absurd (let z : ◌≡◌ {A = ℕ} 0 1 = cc in omega arith)
 
-pub spelled_of_number : (n q : ℕ) (tape : List ℕ) (p : ℕ) → Bytes tape → number_at tape p ≡ Number n q → Stands tape (spell n) p × (q ≡ p + length (spell n))
+pub spelled_of_number : (n q : ℕ) (tape : List ℕ) (p : ℕ) → Bytes tape → number_at tape p ≡ Ok (n, q) → Stands tape (spell n) p × (q ≡ p + length (spell n))
 unfolding number_at spell
 spelled_of_number n q tape p all e = spelled_read last (omega arith) (groups - 1) n q tape p all (inv_refusing p (read_groups last groups tape p) n q e)
 
-pub number_moves : (n q : ℕ) (tape : List ℕ) (p : ℕ) → number_at tape p ≡ Number n q → (p < q) × (q ≤ length tape)
+pub number_moves : (n q : ℕ) (tape : List ℕ) (p : ℕ) → number_at tape p ≡ Ok (n, q) → (p < q) × (q ≤ length tape)
 unfolding number_at
 number_moves n q tape p e = groups_move last groups n q tape p (inv_refusing p (read_groups last groups tape p) n q e)
 

@@ -1,13 +1,12 @@
 -- The reader's loop: a number underway, and what each way on finds.
-use Prim.Native.Nat.{ℕ, suc, ◌+◌, ◌*◌, ◌%◌, ◌-◌, ◌≤◌, ◌<◌}
+use Prim.Native.Nat.{ℕ, suc, ◌+◌, ◌*◌, ◌%◌, ◌-◌, ◌≤◌, ◌<◌, min}
 use native.Mathlib.Omega.{arith}
 use native.Mathlib.Nat.{mul_comm, mul_assoc, mul-le-mul_left}
 use mathlib.Core.Path.{◌≡◌, refl, sym, ap, ◌∙◌}
-use mathlib.Core.Logic.{◌⊎◌, ⊎_elim}
 use mathlib.Core.List.{List}
 use lib.ListN.{length, get_or}
-use Rattle.order.specs.Refusal.{cut, bad_number}
-use Rattle.number.specs.declared.NumberRead.TheVariants.{Number, Refused}
+use Rattle.std.specs.Prelude.{Ok, Err}
+use Rattle.order.specs.declared.Refusal.TheVariants as why
 use Rattle.number.specs.Number.{groups, last, Bad, limit_of, carried, read_groups, refusing, number_at}
 use Rattle.number.proofs.GroupLaws.{step_cut, step_ends, step_more, onto, onto_one, onto_value, onto_zero, onto_carried, top, top_above, limit_more, limit_top, below_top}
 
@@ -27,20 +26,20 @@ begun tape at b h e l =
     }
 
 module _ (tape : List ℕ) (at v w left p : ℕ) (u : Underway tape at v w left p) where
-  pub was_cut : length tape ≤ p → Refused cut at ≡ number_at tape at
+  pub was_cut : length tape ≤ p → Err (record { refusal = why.Cut; place = at }) ≡ number_at tape at
   unfolding refusing onto
   was_cut h = sym (u.rest ∙ ap (λ g. refusing at (onto v w g)) (step_cut last left tape p h))
 
   module _ (b : ℕ) (h : p < length tape) (e : b ≡ get_or tape p 0) where
-    pub was_zero : b ≡ 0 → Refused bad_number at ≡ number_at tape at
+    pub was_zero : b ≡ 0 → Err (record { refusal = why.BadNumber; place = at }) ≡ number_at tape at
     unfolding refusing
     was_zero z = sym (u.rest ∙ ap (λ g. refusing at (onto v w g)) (step_ends last left tape p b h e (omega arith)) ∙ ap (refusing at) (onto_zero v w b (p + 1) z))
 
-    pub ended : (b ≡ 0 → ⊥) → b ≤ limit_of last left → Number (v + w * b) (p + 1) ≡ number_at tape at
+    pub ended : (b ≡ 0 → ⊥) → b ≤ limit_of last left → Ok (v + w * b, p + 1) ≡ number_at tape at
     unfolding refusing
     ended n l = sym (u.rest ∙ ap (λ g. refusing at (onto v w g)) (step_ends last left tape p b h e l) ∙ ap (refusing at) (onto_value v w b (p + 1) n))
 
-    pub was_over : left ≡ 0 → limit_of last left < b → Refused bad_number at ≡ number_at tape at
+    pub was_over : left ≡ 0 → limit_of last left < b → Err (record { refusal = why.BadNumber; place = at }) ≡ number_at tape at
     unfolding refusing onto carried read_groups
     was_over z l = let k : read_groups last left tape (p + 1) ≡ Bad = rw z in sym (u.rest ∙ ap (λ g. refusing at (onto v w g)) (step_more last left tape p b h e l ∙ ap (carried b) k))
 
@@ -80,16 +79,16 @@ pub record Looping (tape : List ℕ) (at final end v w p : ℕ) : Type 0 where
   pub underway : Underway tape at v w left p
   pub place : p + left ≡ final
   pub before : p ≤ end
-  pub ends : ((length tape < final) × (end ≡ length tape)) ⊎ ((final ≤ length tape) × (end ≡ final))
+  pub ends : end ≡ min (length tape) final
 
 pub started : (tape : List ℕ) (at b final end : ℕ) → at < length tape → b ≡ get_or tape at 0 → 127 < b → final ≡ at + (groups - 1)
-    → ((length tape < final) × (end ≡ length tape)) ⊎ ((final ≤ length tape) × (end ≡ final)) → Looping tape at final end (b % 128) 128 (at + 1)
+    → end ≡ min (length tape) final → Looping tape at final end (b % 128) 128 (at + 1)
 started tape at b final end h e l f d =
     record {
       left = groups - 2;
       underway = begun tape at b h e l;
       place = omega arith;
-      before = ⊎_elim (λ x. omega (arith, x.1)) (λ x. omega (arith, x.1)) d;
+      before = omega arith;
       ends = d;
     }
 
@@ -97,10 +96,10 @@ module _ (tape : List ℕ) (at final end v w p : ℕ) (u : Looping tape at final
   -- in the loop a group can hold all seven bits
   module _ (h : p < end) where
     pub inside : p < length tape
-    inside = ⊎_elim (λ x. omega (arith, x.1)) (λ x. omega (arith, x.0, x.1)) u.ends
+    inside = omega (arith, u.ends)
 
     some : u.left ≡ 0 → ⊥
-    some z = ⊎_elim (λ x. omega (arith, x.0, x.1, u.place)) (λ x. omega (arith, x.1, u.place)) u.ends
+    some z = omega (arith, u.ends, u.place)
 
     seven : 127 ≡ limit_of last u.left
     seven = limit_more last u.left some
@@ -115,10 +114,10 @@ module _ (tape : List ℕ) (at final end v w p : ℕ) (u : Looping tape at final
     in_weight = fits_weight tape at v w u.left p u.underway some
 
     module _ (b : ℕ) (e : b ≡ get_or tape p 0) where
-      pub in_zero : b ≡ 0 → Refused bad_number at ≡ number_at tape at
+      pub in_zero : b ≡ 0 → Err (record { refusal = why.BadNumber; place = at }) ≡ number_at tape at
       in_zero z = was_zero tape at v w u.left p u.underway b inside e z
 
-      pub in_ended : (b ≡ 0 → ⊥) → b ≤ 127 → Number (v + w * b) (p + 1) ≡ number_at tape at
+      pub in_ended : (b ≡ 0 → ⊥) → b ≤ 127 → Ok (v + w * b, p + 1) ≡ number_at tape at
       in_ended n l = ended tape at v w u.left p u.underway b inside e n (rw (sym seven) l)
 
       pub in_again : 127 < b → Looping tape at final end (v + w * (b % 128)) (w * 128) (p + 1)
@@ -131,28 +130,32 @@ module _ (tape : List ℕ) (at final end v w p : ℕ) (u : Looping tape at final
             ends = u.ends;
           }
 
-  -- after it comes the tape's end or the last group
-  module _ (h : end ≤ p) where
-    pub after_cut : length tape ≤ p → Refused cut at ≡ number_at tape at
-    after_cut l = was_cut tape at v w u.left p u.underway l
+  -- the loop ends at its end
+  pub stopped : end ≤ p → Looping tape at final end v w end
+  stopped h = let e : p ≡ end = omega (arith, u.before) in rw e at u
 
-    module _ (l : p < length tape) where
-      none : u.left ≡ 0
-      none = ⊎_elim (λ x. absurd (omega (arith, x.1, u.before))) (λ x. omega (arith, x.1, u.place, u.before)) u.ends
+-- after it comes the tape's end or the last group
+module _ (tape : List ℕ) (at final end v w : ℕ) (u : Looping tape at final end v w end) where
+  pub after_cut : length tape ≤ end → Err (record { refusal = why.Cut; place = at }) ≡ number_at tape at
+  after_cut l = was_cut tape at v w u.left end u.underway l
 
-      final_limit : last ≡ limit_of last u.left
-      unfolding limit_of
-      final_limit = rw none
+  module _ (l : end < length tape) where
+    none : u.left ≡ 0
+    none = omega (arith, u.ends, u.place)
 
-      pub after_fits : (b : ℕ) → b ≤ last → v + w * b < top last (groups - 1)
-      after_fits b m = fits tape at v w u.left p u.underway b (rw (sym final_limit) m)
+    final_limit : last ≡ limit_of last u.left
+    unfolding limit_of
+    final_limit = rw none
 
-      module _ (b : ℕ) (e : b ≡ get_or tape p 0) where
-        pub after_zero : b ≡ 0 → Refused bad_number at ≡ number_at tape at
-        after_zero z = was_zero tape at v w u.left p u.underway b l e z
+    pub after_fits : (b : ℕ) → b ≤ last → v + w * b < top last (groups - 1)
+    after_fits b m = fits tape at v w u.left end u.underway b (rw (sym final_limit) m)
 
-        pub after_over : last < b → Refused bad_number at ≡ number_at tape at
-        after_over m = was_over tape at v w u.left p u.underway b l e none (rw (sym final_limit) m)
+    module _ (b : ℕ) (e : b ≡ get_or tape end 0) where
+      pub after_zero : b ≡ 0 → Err (record { refusal = why.BadNumber; place = at }) ≡ number_at tape at
+      after_zero z = was_zero tape at v w u.left end u.underway b l e z
 
-        pub after_ended : (b ≡ 0 → ⊥) → b ≤ last → Number (v + w * b) (p + 1) ≡ number_at tape at
-        after_ended n m = ended tape at v w u.left p u.underway b l e n (rw (sym final_limit) m)
+      pub after_over : last < b → Err (record { refusal = why.BadNumber; place = at }) ≡ number_at tape at
+      after_over m = was_over tape at v w u.left end u.underway b l e none (rw (sym final_limit) m)
+
+      pub after_ended : (b ≡ 0 → ⊥) → b ≤ last → Ok (v + w * b, end + 1) ≡ number_at tape at
+      after_ended n m = ended tape at v w u.left end u.underway b l e n (rw (sym final_limit) m)

@@ -9,7 +9,9 @@ use mathlib.Core.Bool.{Bool, true, false, cond}
 use lib.ListN.{length, get_or}
 use lib.Dec.{ltb, leb}
 use borrow.Author.Tests.{ltb-true, ltb-false, leb-false}
-use Rattle.number.specs.declared.NumberRead.TheVariants.{Refused}
+use Rattle.std.specs.Prelude.{Err}
+use Rattle.order.specs.declared.Refusal.TheVariants as why
+use Rattle.number.specs.declared.Refused.{Refused}
 use Rattle.number.specs.Number.{groups, last, Groups, Value, Cut, Bad, limit_of, carried, read_groups, refusing, number_at, number_told}
 use Rattle.number.specs.Spelling.{GoesOn, Breaks, EndsAfter, told_at, RefusesExactly}
 use Rattle.number.proofs.GroupLaws.{limit_small, step_cut, step_ends, step_more}
@@ -179,14 +181,14 @@ cut_ends (suc left) tape at e =
 -- ---- the refusals
 
 -- a refused number is refused with 5 or 6, at its start
-pub refused_at_lem : (tape : List ℕ) (at number place : ℕ) → number_at tape at ≡ Refused number place → place ≡ at
+pub refused_at_lem : (tape : List ℕ) (at : ℕ) (r : Refused) → number_at tape at ≡ Err r → r.place ≡ at
 unfolding number_at refusing
-refused_at_lem tape at number place e = go (read_groups last groups tape at) e
+refused_at_lem tape at r e = go (read_groups last groups tape at) e
   where
-    go : (g : Groups) → refusing at g ≡ Refused number place → place ≡ at
+    go : (g : Groups) → refusing at g ≡ Err r → r.place ≡ at
     go (Value v q) e = absurd (let z : ◌≡◌ {A = ℕ} 0 1 = cc in omega arith)
-    go Cut e = cc
-    go Bad e = cc
+    go Cut e = let z : record { refusal = why.Cut; place = at } ≡ r = cc in ap (λ (x : Refused). x.place) (sym z)
+    go Bad e = let z : record { refusal = why.BadNumber; place = at } ≡ r = cc in ap (λ (x : Refused). x.place) (sym z)
 
 told_bad : (at : ℕ) (g : Groups) → (number_told (refusing at g)).refusal ≡ 6 → g ≡ Bad
 unfolding refusing number_told

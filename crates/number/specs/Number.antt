@@ -1,9 +1,9 @@
 -- Numbers on the tape (document 01, "The tape"; document 02, T-04): groups of seven bits, low group first, the high bit set on all but the last; the shortest
 -- spelling only.
-use Rattle.std.specs.Prelude.{ℕ, zero, suc, ◌+◌, ◌*◌, ◌%◌, ◌/◌, ◌<◌, List, [], ◌∷◌, ◌++◌, cond, length, get_or, drop, ltb, leb}
-use Rattle.order.specs.Refusal.{accepted, cut, bad_number}
-use Rattle.number.specs.declared.NumberRead.{NumberRead}
-use Rattle.number.specs.declared.NumberRead.TheVariants.{Number, Refused}
+use Rattle.std.specs.Prelude.{ℕ, zero, suc, ◌+◌, ◌*◌, ◌%◌, ◌/◌, ◌<◌, List, [], ◌∷◌, ◌++◌, Result, Ok, Err, cond, length, get_or, drop, ltb, leb}
+use Rattle.order.specs.declared.Refusal.TheVariants as why
+use Rattle.order.specs.Refusal.{accepted, refusal_number}
+use Rattle.number.specs.declared.Refused.{Refused}
 
 -- "Numbers run to ten groups, the tenth at most 1": the most groups, and the most that the last of so many can hold
 abbrev pub groups : ℕ
@@ -41,12 +41,13 @@ read_groups last (suc left) tape at =
     Cut
 
 -- document 01, "Numbers of refusal": 6 where a byte breaks the spelling, 5 where the tape ends and no byte broke it, at the number's start
-unfoldable pub refusing : ℕ → Groups → NumberRead
-refusing at (Value v next) = Number v next
-refusing at Cut = Refused cut at
-refusing at Bad = Refused bad_number at
+unfoldable pub refusing : ℕ → Groups → Result (ℕ × ℕ) Refused
+refusing at (Value v next) = Ok (v, next)
+refusing at Cut = Err (record { refusal = why.Cut; place = at })
+refusing at Bad = Err (record { refusal = why.BadNumber; place = at })
 
-unfoldable pub number_at : List ℕ → ℕ → NumberRead
+-- the number that starts at a place, with the place after it
+unfoldable pub number_at : List ℕ → ℕ → Result (ℕ × ℕ) Refused
 number_at tape at = refusing at (read_groups last groups tape at)
 
 -- what reading answers, in document 01's numbers: the number of refusal, 0 for none; the place after what was read, or that of the refusal; the numbers read
@@ -55,9 +56,9 @@ pub record Told : Type 0 where
   pub place : ℕ
   pub numbers : List ℕ
 
-unfoldable pub number_told : NumberRead → Told
-number_told (Number v next) = record { refusal = accepted; place = next; numbers = v ∷ [] }
-number_told (Refused number place) = record { refusal = number; place = place; numbers = [] }
+unfoldable pub number_told : Result (ℕ × ℕ) Refused → Told
+number_told (Ok (v, next)) = record { refusal = accepted; place = next; numbers = v ∷ [] }
+number_told (Err e) = record { refusal = refusal_number e.refusal; place = e.place; numbers = [] }
 
 -- the shortest spelling, of at most so many groups
 unfoldable pub spell_groups : ℕ → ℕ → List ℕ

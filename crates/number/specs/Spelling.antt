@@ -1,7 +1,6 @@
 -- Which bytes spell a number, and when a number is refused (document 01, "Numbers of refusal"): "6 at the first byte that breaks the spelling, even if the tape
 -- ends right after it; 5 if the tape ends and no byte broke it". The refusal's place is where the number starts.
-use Rattle.std.specs.Prelude.{ℕ, ◌+◌, ◌-◌, ◌≤◌, ◌<◌, ◌≡◌, ◌⊎◌, List, [], ◌∷◌, ◌++◌, length, get_or, take, drop}
-use Rattle.number.specs.declared.NumberRead.TheVariants.{Number}
+use Rattle.std.specs.Prelude.{ℕ, ◌+◌, ◌-◌, ◌≤◌, ◌<◌, ◌≡◌, ◌⊎◌, Ok, List, [], ◌∷◌, ◌++◌, length, get_or, take, drop}
 use Rattle.number.specs.Number.{number_at, Told, number_told, spell, Bytes}
 
 -- the k bytes from a place on are on the tape, each with its high bit set
@@ -45,10 +44,10 @@ RefusesExactly = (tape : List ℕ) (at : ℕ) → RefusedExactly tape at
 unfoldable pub SpellsEach : Type 0
 SpellsEach =
     (n : ℕ) → n ≤ 0xFFFF_FFFF_FFFF_FFFF
-    → (before after : List ℕ) → number_at (before ++ (spell n ++ after)) (length before) ≡ Number n (length before + length (spell n))
+    → (before after : List ℕ) → number_at (before ++ (spell n ++ after)) (length before) ≡ Ok (n, length before + length (spell n))
 
 -- and nothing else is read: a number that was read is a 64-bit number, and the bytes between the two places are its spelling
 unfoldable pub SpellsOnly : Type 0
 SpellsOnly =
-    (tape : List ℕ) (at n next : ℕ) → Bytes tape → number_at tape at ≡ Number n next
+    (tape : List ℕ) (at n next : ℕ) → Bytes tape → number_at tape at ≡ Ok (n, next)
     → (n ≤ 0xFFFF_FFFF_FFFF_FFFF) × (take (next - at) (drop at tape) ≡ spell n)

@@ -10,4 +10,4 @@ returns-then-tape-at c = sym (ap (refusing _) (step_cut last (groups - 1) _ _ c.
 
 pub returns-then-first-le127 : goal.returns-then-first-le127
 unfolding number_at refusing limit_of
-returns-then-first-le127 c = sym (ap (refusing _) (step_ends last (groups - 1) _ _ _ c.if-tape-at.false c.wide-first.ensures.0 c.if-first-le127.true))
+returns-then-first-le127 c = sym (ap (refusing _) (step_ends last (groups - 1) _ _ _ c.if-tape-at.false c.from-first.ensures c.if-first-le127.true))
