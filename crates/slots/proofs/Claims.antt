@@ -1,19 +1,21 @@
--- A block taken from its other holders, and claimed, with the four slots of its number read first and written together.
+-- A block taken from its other holders, and claimed, each slot read as it was found; and the owner of a block.
 use mathlib.Core.Path.{◌≡◌, refl, sym, ap, ◌∙◌}
 use mathlib.Core.Bool.{Bool, true, false, cond, not, ◌&&◌}
-use Prim.Native.Nat.{ℕ, ◌+◌, ◌*◌, ◌%◌}
+use Prim.Native.Nat.{ℕ, zero, suc, ◌+◌, ◌*◌, ◌%◌, ◌<◌}
+use native.Mathlib.Numerals.{add-one}
 use native.Mathlib.Omega.{arith}
 use lib.Dec.{eqb}
-use lib.ListN.{get_or}
+use lib.ListN.{set}
 use lib.Seq.{set-get_or}
 use Rattle.coherence.specs.declared.Slot.{Slot}
 use Rattle.coherence.specs.declared.Slot.TheVariants.{Invalid, Modified}
 use Rattle.coherence.specs.declared.Directory.{Directory}
 use Rattle.coherence.specs.declared.Entry.{Entry}
 use mathlib.Core.List.{List}
-use Rattle.coherence.specs.Slots.{empty_entry, place, slot_at, set_slot, holds, owner_of}
+use Rattle.coherence.specs.Slots.{empty_entry, place, slot_at, set_slot, holds, modified, owner_of}
+use Rattle.coherence.proofs.Cases.{four}
 use Rattle.coherence.specs.Access.{Run, mark, expel, each_unit, claim}
-use Rattle.slots.specs.Directory.{first_modified, released, release_into, set_column, expelled_at_once, claimed_at_once}
+use Rattle.slots.specs.Directory.{released, release_into, expelled_at_once, claimed_at_once}
 use Rattle.coherence.proofs.SlotLaws.{slot_other}
 
 set_own : (d : Directory) (n : ℕ) → set_slot d n (slot_at d n) ≡ d
@@ -72,30 +74,32 @@ pub claim_is : (u b : ℕ) (w : Run)
 unfolding claim mark claimed_at_once
 claim_is u b w = ap (mark (place u b) (Modified b)) (expel_is_all u b w)
 
-place_at : (v b s : ℕ) → s ≡ b % 16 → place v b ≡ 16 * v + s
-unfolding place
-place_at v b s h = omega arith
+-- the directory d once the first n units but u have released block b
+unfoldable pub released_below : ℕ → ℕ → ℕ → Directory → Directory
+released_below zero u b d = d
+released_below (suc n) u b d = release_into u b d n (released_below n u b d)
 
--- the four slots, released and written together
-pub expelled_column : (d : Directory) (u b s : ℕ) (w x y z : Slot) → s ≡ b % 16
-    → w ≡ released (get_or d.slots s empty_entry).slot b 0 u → x ≡ released (get_or d.slots (16 + s) empty_entry).slot b 1 u
-    → y ≡ released (get_or d.slots (32 + s) empty_entry).slot b 2 u → z ≡ released (get_or d.slots (48 + s) empty_entry).slot b 3 u
-    → set_column d s w x y z ≡ expelled_at_once u b d
-unfolding expelled_at_once release_into set_column slot_at
-expelled_column d u b s w x y z hs hw hx hy hz =
-    let e₀ : place 0 b ≡ s = place_at 0 b s hs ∙ omega arith in
-    let e₁ : place 1 b ≡ 16 + s = place_at 1 b s hs ∙ omega arith in
-    let e₂ : place 2 b ≡ 32 + s = place_at 2 b s hs ∙ omega arith in
-    let e₃ : place 3 b ≡ 48 + s = place_at 3 b s hs ∙ omega arith in
-    rw (e₀, e₁, e₂, e₃, hw, hx, hy, hz) refl
+pub one_more : (n u b : ℕ) (d : Directory) (x : Slot) {l : List Entry} → l ≡ (released_below n u b d).slots → x ≡ released (slot_at d (place n b)) b n u
+    → set l (place n b) (record { slot = x }) ≡ (released_below (n + 1) u b d).slots
+unfolding released_below release_into set_slot
+one_more n u b d x p q = rw (add-one n, p, q) refl
 
--- the owner of a block, from the four slots in which it has its place
-pub owner_column : (d : Directory) (b s : ℕ) → s ≡ b % 16
-    → first_modified (get_or d.slots s empty_entry).slot (get_or d.slots (16 + s) empty_entry).slot (get_or d.slots (32 + s) empty_entry).slot (get_or d.slots (48 + s) empty_entry).slot b ≡ owner_of d b
-unfolding first_modified owner_of slot_at
-owner_column d b s h =
-    let e₀ : place 0 b ≡ s = place_at 0 b s h ∙ omega arith in
-    let e₁ : place 1 b ≡ 16 + s = place_at 1 b s h ∙ omega arith in
-    let e₂ : place 2 b ≡ 32 + s = place_at 2 b s h ∙ omega arith in
-    let e₃ : place 3 b ≡ 48 + s = place_at 3 b s h ∙ omega arith in
-    rw (e₀, e₁, e₂, e₃) refl
+pub all_released : (u b : ℕ) (d : Directory) → released_below 4 u b d ≡ expelled_at_once u b d
+unfolding released_below expelled_at_once
+all_released u b d = refl
+
+-- the owner of a block: the first unit that has it EM
+pub owner_found : (d : Directory) (b v : ℕ) → v < 4 → ((u : ℕ) → u < v → modified (slot_at d (place u b)) b ≡ false) → modified (slot_at d (place v b)) b ≡ true
+    → v ≡ owner_of d b
+unfolding owner_of
+owner_found d b v l h e =
+    four (λ v. ((u : ℕ) → u < v → modified (slot_at d (place u b)) b ≡ false) → modified (slot_at d (place v b)) b ≡ true → v ≡ owner_of d b)
+    (λ h e. rw e refl)
+    (λ h e. rw (h 0 (omega arith), e) refl)
+    (λ h e. rw (h 0 (omega arith), h 1 (omega arith), e) refl)
+    (λ h e. rw (h 0 (omega arith), h 1 (omega arith), h 2 (omega arith), e) refl)
+    v l h e
+
+pub owner_none : (d : Directory) (b : ℕ) → ((u : ℕ) → u < 4 → modified (slot_at d (place u b)) b ≡ false) → 4 ≡ owner_of d b
+unfolding owner_of
+owner_none d b h = rw (h 0 (omega arith), h 1 (omega arith), h 2 (omega arith), h 3 (omega arith)) refl

@@ -1,12 +1,12 @@
--- How the code finds the unit that has a block EM, and claims a block: the four units' slots of one slot number are taken together. The rules themselves
--- are `coherence`'s; the proofs show that these come to the same.
-use Rattle.std.specs.Prelude.{ℕ, ◌+◌, cond, not, ◌&&◌, List, [], ltb, eqb}
+-- How the code claims a block: the four units' slots of one slot number are read as they were found. The rules themselves are `coherence`'s; the proofs
+-- show that these come to the same.
+use Rattle.std.specs.Prelude.{ℕ, cond, not, ◌&&◌, List, [], ltb, eqb}
 use Rattle.coherence.specs.declared.Slot.{Slot}
 use Rattle.coherence.specs.declared.Slot.TheVariants.{Invalid, Shared, Modified}
 use Rattle.coherence.specs.declared.Entry.{Entry}
 use Rattle.coherence.specs.declared.Directory.{Directory}
 use Rattle.coherence.specs.Settings.{drill_settings}
-use Rattle.coherence.specs.Slots.{place, slot_at, set_slot, holds, modified}
+use Rattle.coherence.specs.Slots.{place, slot_at, set_slot, holds}
 
 -- the block of a valid slot, else s
 unfoldable pub block_or : Slot → ℕ → ℕ
@@ -17,10 +17,6 @@ block_or (Modified b) s = b
 -- a directory of these slots, which the code takes and gives without the settings and the sets: nothing that is said of slots depends on them
 abbrev pub of_slots : List Entry → Directory
 of_slots l = record { slots = l; settings = drill_settings; holders = [] }
-
--- the first of the four units whose slot has block b modified, or 4
-unfoldable pub first_modified : Slot → Slot → Slot → Slot → ℕ → ℕ
-first_modified w x y z b = cond (modified w b) 0 (cond (modified x b) 1 (cond (modified y b) 2 (cond (modified z b) 3 4)))
 
 -- slot x of unit v, once unit u claims block b
 unfoldable pub released : Slot → ℕ → ℕ → ℕ → Slot
@@ -37,10 +33,6 @@ expelled_at_once u b d = release_into u b d 3 (release_into u b d 2 (release_int
 -- the directory d once unit u claims block b
 unfoldable pub claimed_at_once : ℕ → ℕ → Directory → Directory
 claimed_at_once u b d = set_slot (expelled_at_once u b d) (place u b) (Modified b)
-
--- the four units' slots s become w, x, y and z
-unfoldable pub set_column : Directory → ℕ → Slot → Slot → Slot → Slot → Directory
-set_column d s w x y z = set_slot (set_slot (set_slot (set_slot d s w) (16 + s) x) (32 + s) y) (48 + s) z
 
 -- ---- fetching: unit v, or none if v is 4 or above, had block b EM
 

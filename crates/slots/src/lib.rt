@@ -1,28 +1,24 @@
-// The directory's slots: one read, one set, the unit that has a block EM, a block taken from its holders, a claim, and what a fetch leaves; and a unit's kind
-// of board. Past the last slot one reads as invalid, and setting one changes nothing. The 64 slots go from hand to hand without the settings and the sets of holders:
+// The directory's slots: one read, one set, a slot's block and rank, the unit that has a block EM, a block taken from its holders, a claim, and what a fetch
+// leaves; and a unit's kind of board. Past the last slot one reads as invalid, and setting one changes nothing. The 64 slots go from hand to hand without the settings and the sets of holders:
 // so a copy of them has 128 bytes (docs/PERFORMANCE.md).
 #![tactic(auto)]
 
-ghost use Rattle.std.specs.Prelude.{◌≡◌, ◌<◌};
+ghost use Rattle.std.specs.Prelude.{◌≡◌, ◌≤◌};
 ghost use Rattle.coherence.specs.Settings.{through, drill_settings};
-ghost use Rattle.coherence.specs.Slots.{place, slot_at, set_slot, holds, modified, owner_of, cold_directory};
+ghost use Rattle.coherence.specs.Slots.{place, slot_at, set_slot, holds, modified, owner_of, state_number, cold_directory};
 ghost use Rattle.coherence.specs.Access.{cache_place};
-ghost use Rattle.slots.specs.Directory.{block_or, of_slots, first_modified, released, set_column, expelled_at_once, claimed_at_once, yielded_directory, fetched_directory};
+ghost use Rattle.slots.specs.Directory.{block_or, of_slots, released, expelled_at_once, claimed_at_once, yielded_directory, fetched_directory};
 
 use coherence::{Board, Directory, Entry, Kind, Settings, Slot};
 
+#[tactic(auto, unfolding(coherence::specs::Slots::slot_at), using(crate::proofs::Sets::slot_far))]
 pub fn slot_at(slots: [Entry; 64], n: usize) -> Slot
     ensures { result ≡ slot_at (of_slots slots) n }
 {
-    if n < 64 {
-        let entry = slots[n];
-        let slot = entry.slot;
-        slot
-    } else {
-        Slot::Invalid
-    }
+    if n < 64 { slots[n].slot } else { Slot::Invalid }
 }
 
+#[tactic(auto, unfolding(coherence::specs::Slots::set_slot), using(crate::proofs::Sets::set_far))]
 pub fn set_slot(slots: [Entry; 64], n: usize, slot: Slot) -> [Entry; 64]
     ensures { result ≡ (set_slot (of_slots slots) n slot).slots }
 {
@@ -34,200 +30,151 @@ pub fn set_slot(slots: [Entry; 64], n: usize, slot: Slot) -> [Entry; 64]
 }
 
 // The number of the unit's slot in which the block has its place.
+#[tactic(auto, unfolding(coherence::specs::Slots::place))]
 pub fn place_of(unit: u8, block: u8) -> usize
     ensures { result ≡ place unit block }
 {
-    16 * (unit as usize) + (block % 16) as usize
+    16 * usize::from(unit) + usize::from(block % 16)
 }
 
 // Where the address stands in the cache store, in the unit's slot.
+#[tactic(auto, unfolding(coherence::specs::Access::cache_place, coherence::specs::Slots::place))]
 pub fn cache_place(unit: u8, address: u32) -> u32
     ensures { result ≡ cache_place unit address }
 {
-    512 * (unit as u32) + address % 512
+    512 * u32::from(unit) + address % 512
 }
 
+#[tactic(auto, unfolding(coherence::specs::Slots::holds))]
 pub fn holds_block(slot: Slot, block: u8) -> bool
     ensures { result ≡ holds slot block }
 {
     match slot {
         Slot::Invalid => false,
-        Slot::Shared(b) => b == block,
-        Slot::Modified(b) => b == block,
+        Slot::Shared(b) | Slot::Modified(b) => b == block,
     }
 }
 
+#[tactic(auto, unfolding(coherence::specs::Slots::modified))]
 pub fn has_modified(slot: Slot, block: u8) -> bool
     ensures { result ≡ modified slot block }
 {
-    match slot {
-        Slot::Invalid => false,
-        Slot::Shared(_) => false,
-        Slot::Modified(b) => b == block,
-    }
+    matches!(slot, Slot::Modified(b) if b == block)
 }
 
 // The block of a valid slot, else the other number.
+#[tactic(auto, unfolding(crate::specs::Directory::block_or))]
 pub fn block_or(slot: Slot, other: u8) -> u8
     ensures { result ≡ block_or slot other }
 {
     match slot {
         Slot::Invalid => other,
-        Slot::Shared(b) => b,
-        Slot::Modified(b) => b,
+        Slot::Shared(b) | Slot::Modified(b) => b,
     }
 }
 
+// The slot's state as a number: 0 invalid, 1 shared, 2 modified.
+#[tactic(auto, unfolding(coherence::specs::Slots::state_number))]
+pub fn rank(slot: Slot) -> u8
+    ensures { (result ≡ state_number slot) × (result ≤ 2) }
+{
+    match slot {
+        Slot::Invalid => 0,
+        Slot::Shared(_) => 1,
+        Slot::Modified(_) => 2,
+    }
+}
+
+#[tactic(auto, unfolding(coherence::specs::Slots::cold_directory))]
 pub fn cold_directory(settings: Settings) -> Directory
     ensures { result ≡ cold_directory settings }
 {
     let entry = Entry {
         slot: Slot::Invalid,
     };
-    let slots = [entry; 64];
-    let holders = [0u8; 64];
     Directory {
-        slots,
+        slots: [entry; 64],
         settings,
-        holders,
+        holders: [0; 64],
     }
 }
 
 // Four copyback boards, and steal off.
+#[tactic(auto, unfolding(coherence::specs::Settings::drill_settings))]
 pub fn drill_settings() -> Settings
     ensures { result ≡ drill_settings }
 {
     let board = Board {
         kind: Kind::Copyback,
     };
-    let boards = [board; 4];
     Settings {
-        boards,
+        boards: [board; 4],
         steal: false,
     }
 }
 
 // Whether the unit has a write-through board.
+#[tactic(auto, unfolding(coherence::specs::Settings::through, coherence::specs::Settings::is_through), using(crate::proofs::Sets::board_far))]
 pub fn is_through(settings: Settings, unit: u8) -> bool
     ensures { result ≡ through settings unit }
 {
-    if unit < 4 {
-        let boards = settings.boards;
-        let board = boards[unit as usize];
-        let kind = board.kind;
-        match kind {
-            Kind::Copyback => false,
-            Kind::WriteThrough => true,
-        }
-    } else {
-        false
-    }
+    unit < 4 && matches!(settings.boards[usize::from(unit)].kind, Kind::WriteThrough)
 }
 
-// The first of the four units whose slot has the block EM, or 4.
-fn first_modified(w: Slot, x: Slot, y: Slot, z: Slot, block: u8) -> u8
-    ensures { result ≡ first_modified w x y z block }
+// The unit that has the block EM, or 4. It is no Option: the definitions that take it (`owner_of`, `yielded_directory` and those above them) have the 4.
+#[tactic(auto, unfolding(coherence::specs::Slots::place, coherence::specs::Slots::slot_at))]
+pub fn owner(slots: [Entry; 64], block: u8) -> u8
+    ensures { result ≡ owner_of (of_slots slots) block }
 {
-    if has_modified(w, block) {
-        return 0;
-    }
-    if has_modified(x, block) {
-        return 1;
-    }
-    if has_modified(y, block) {
-        return 2;
-    }
-    if has_modified(z, block) {
-        return 3;
+    for unit in 0..4 {
+        if has_modified(slots[place_of(unit, block)].slot, block) {
+            return unit;
+        }
     }
     4
 }
 
-// The unit that has the block EM, or 4.
-pub fn owner(slots: [Entry; 64], block: u8) -> u8
-    ensures { result ≡ owner_of (of_slots slots) block }
-{
-    let s = (block % 16) as usize;
-    let w = slots[s];
-    let x = slots[16 + s];
-    let y = slots[32 + s];
-    let z = slots[48 + s];
-    let ws = w.slot;
-    let xs = x.slot;
-    let ys = y.slot;
-    let zs = z.slot;
-    first_modified(ws, xs, ys, zs, block)
-}
-
 // The slot of unit v once no unit but u holds the block.
+#[tactic(auto, unfolding(crate::specs::Directory::released))]
 fn release(slot: Slot, block: u8, v: u8, u: u8) -> Slot
     ensures { result ≡ released slot block v u }
 {
-    if v == u {
-        return slot;
-    }
-    if holds_block(slot, block) {
+    if v != u && holds_block(slot, block) {
         Slot::Invalid
     } else {
         slot
     }
 }
 
-// The four units' slots s become w, x, y and z.
-fn set_column(slots: [Entry; 64], s: usize, w: Slot, x: Slot, y: Slot, z: Slot) -> [Entry; 64]
-    requires { s < 16 }
-    ensures { result ≡ (set_column (of_slots slots) s w x y z).slots }
-{
-    let mut left = slots;
-    left[s] = Entry { slot: w };
-    left[16 + s] = Entry { slot: x };
-    left[32 + s] = Entry { slot: y };
-    left[48 + s] = Entry { slot: z };
-    left
-}
-
-// The slots once no unit but this holds the block. The four slots are read before any is written.
+// The slots once no unit but this holds the block. Each is read from those that were there.
+#[tactic(auto, unfolding(coherence::specs::Slots::place))]
 pub fn expelled(slots: [Entry; 64], unit: u8, block: u8) -> [Entry; 64]
     ensures { result ≡ (expelled_at_once unit block (of_slots slots)).slots }
 {
-    let s = (block % 16) as usize;
-    let w = slots[s];
-    let x = slots[16 + s];
-    let y = slots[32 + s];
-    let z = slots[48 + s];
-    let ws = w.slot;
-    let xs = x.slot;
-    let ys = y.slot;
-    let zs = z.slot;
-    let wl = release(ws, block, 0, unit);
-    let xl = release(xs, block, 1, unit);
-    let yl = release(ys, block, 2, unit);
-    let zl = release(zs, block, 3, unit);
-    set_column(slots, s, wl, xl, yl, zl)
+    let mut left = slots;
+    for v in 0..4 {
+        let n = place_of(v, block);
+        left[n] = Entry {
+            slot: release(slots[n].slot, block, v, unit),
+        };
+    }
+    left
 }
 
-// The slots once the unit claims the block. It does not call `expelled`, whose answer would pass through memory (docs/PERFORMANCE.md).
+// The slots once the unit claims the block.
+#[tactic(auto, unfolding(crate::specs::Directory::claimed_at_once, coherence::specs::Slots::set_slot))]
 pub fn claimed(slots: [Entry; 64], unit: u8, block: u8) -> [Entry; 64]
     ensures { result ≡ (claimed_at_once unit block (of_slots slots)).slots }
 {
-    let s = (block % 16) as usize;
-    let w = slots[s];
-    let x = slots[16 + s];
-    let y = slots[32 + s];
-    let z = slots[48 + s];
-    let ws = w.slot;
-    let xs = x.slot;
-    let ys = y.slot;
-    let zs = z.slot;
-    let w2 = release(ws, block, 0, unit);
-    let x2 = release(xs, block, 1, unit);
-    let y2 = release(ys, block, 2, unit);
-    let z2 = release(zs, block, 3, unit);
-    let left = set_column(slots, s, w2, x2, y2, z2);
-    set_slot(left, place_of(unit, block), Slot::Modified(block))
+    set_slot(
+        expelled(slots, unit, block),
+        place_of(unit, block),
+        Slot::Modified(block),
+    )
 }
 
 // The holder, where it is a unit, has the block SU.
+#[tactic(auto, unfolding(crate::specs::Directory::yielded_directory))]
 pub fn yielded(slots: [Entry; 64], holder: u8, block: u8) -> [Entry; 64]
     ensures { result ≡ (yielded_directory block holder (of_slots slots)).slots }
 {
@@ -239,9 +186,9 @@ pub fn yielded(slots: [Entry; 64], holder: u8, block: u8) -> [Entry; 64]
 }
 
 // And slot n too.
+#[tactic(auto, unfolding(crate::specs::Directory::fetched_directory), using(crate::proofs::OfSlots::of_yielded))]
 pub fn fetched(slots: [Entry; 64], n: usize, holder: u8, block: u8) -> [Entry; 64]
     ensures { result ≡ (fetched_directory n block holder (of_slots slots)).slots }
 {
-    let left = yielded(slots, holder, block);
-    set_slot(left, n, Slot::Shared(block))
+    set_slot(yielded(slots, holder, block), n, Slot::Shared(block))
 }
