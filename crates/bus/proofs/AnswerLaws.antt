@@ -8,12 +8,13 @@ use native.Mathlib.Nat.{sub-add_cancel}
 use native.Mathlib.Omega.{arith}
 use lib.Dec.{leb, eqb}
 use borrow.Author.Tests.{le-leb, lt-leb, ne_eqb}
-use Rattle.order.specs.Refusal.{accepted, field_range}
+use Rattle.std.specs.Prelude.{Ok, Err}
+use Rattle.order.specs.Refusal.{accepted, field_range, number_of}
+use Rattle.order.specs.declared.Refusal.TheVariants.{FieldRange}
 use Rattle.bus.specs.declared.answer.Class.{Class}
 use Rattle.bus.specs.declared.answer.Class.TheVariants.{NoError, NoErrorLock, ReservedNoError, UserNoError, HardwareError, IllegalCommand, BusSequenceError, ReservedError, UserError}
-use Rattle.bus.specs.declared.answer.CodeFound.TheVariants.{Code, Refused}
 use Rattle.numeric.specs.Range.{within}
-use Rattle.bus.specs.Answer.{class_of, code_number, in_row, code_of, refusal_of, code_found, is_error, error_row, Rows}
+use Rattle.bus.specs.Answer.{class_of, code_number, in_row, code_of, code_found, is_error, error_row, Rows}
 use Rattle.numeric.proofs.Cases.{le_or_lt, eq_or_ne}
 use Rattle.numeric.proofs.RangeLaws.{within_in, within_true}
 
@@ -59,10 +60,10 @@ by_rows P none lock reserved user hardware illegal sequence reserved_error userE
     up_to n below rest = ⊎_elim below rest (le_or_lt c n)
 
 -- the code of the class of a code is the code
-pub code_of_class : (c : ℕ) → c < 256 → code_of (class_of c) ≡ Code c
+pub code_of_class : (c : ℕ) → c < 256 → code_of (class_of c) ≡ Ok c
 unfolding code_of code_number in_row class_of
 code_of_class =
-    by_rows (λ c. c < 256 → code_of (class_of c) ≡ Code c)
+    by_rows (λ c. c < 256 → code_of (class_of c) ≡ Ok c)
     (λ _. refl)
     (λ _. refl)
     (λ c l u _. ap code_of (class_reserved c l u) ∙ rw (within_in 2 63 c l u))
@@ -88,23 +89,23 @@ class_of_number (ReservedError n) e = class_reserved_error n (within_true 131 19
 class_of_number (UserError n) e = class_user_error (n + 192) (within_true 192 255 (n + 192) e).0 ∙ ap UserError (omega arith)
 
 -- the class of the code of a class is the class, where the class is accepted
-pub class_of_code : (k : Class) (c : ℕ) → code_of k ≡ Code c → class_of c ≡ k
+pub class_of_code : (k : Class) (c : ℕ) → code_of k ≡ Ok c → class_of c ≡ k
 unfolding code_of
 class_of_code k c = go (in_row k) refl
   where
-    go : (t : Bool) → in_row k ≡ t → cond t (Code (code_number k)) (Refused field_range) ≡ Code c → class_of c ≡ k
+    go : (t : Bool) → in_row k ≡ t → cond t (Ok (code_number k)) (Err FieldRange) ≡ Ok c → class_of c ≡ k
     go true e h = let same : c ≡ code_number k = cc in ap class_of same ∙ class_of_number k e
     go false e h = absurd (let z : ◌≡◌ {A = ℕ} 0 1 = cc in omega arith)
 
 -- what is answered of a class, in numbers: refused, the code is 0
 pub code_numbers : (k : Class)
-    → (refusal_of (code_of k) ≡ cond (in_row k) accepted field_range) × (code_found (code_of k) ≡ cond (in_row k) (code_number k) 0)
-unfolding code_of refusal_of code_found
+    → (number_of (code_of k) ≡ cond (in_row k) accepted field_range) × (code_found (code_of k) ≡ cond (in_row k) (code_number k) 0)
+unfolding code_of code_found
 code_numbers k = go (in_row k) (code_number k)
   where
     go : (t : Bool) (c : ℕ)
-        → (refusal_of (cond t (Code c) (Refused field_range)) ≡ cond t accepted field_range)
-        × (code_found (cond t (Code c) (Refused field_range)) ≡ cond t c 0)
+        → (number_of (cond t (Ok c) (Err FieldRange)) ≡ cond t accepted field_range)
+        × (code_found (cond t (Ok c) (Err FieldRange)) ≡ cond t c 0)
     go true c = (refl, refl)
     go false c = (refl, refl)
 

@@ -10,7 +10,8 @@ use native.Mathlib.Omega.{arith}
 use lib.Count.{ones, ones_cat, ones-le, ones-ones}
 use lib.Pow.{pow_pos, pow-add, pow_mono, shl_exact}
 use borrow.Author.Tests.{le-leb, lt-leb}
-use Rattle.order.specs.Refusal.{accepted, field_range}
+use Rattle.std.specs.Prelude.{Ok, Err}
+use Rattle.order.specs.declared.Refusal.TheVariants.{FieldRange}
 use Rattle.numeric.specs.Range.{within}
 use Rattle.numeric.specs.Bits.{bit_at, ones_below, from_bits}
 use Rattle.bus.specs.Lanes.{carried_at, positions_of, words_of, lanes_of}
@@ -108,16 +109,11 @@ words_of_sum ra bct l =
     (le_or_lt (ra % 8 + bct) 7)
 
 pub lanes_accepted : (ra bct : ℕ) → bct ≤ 7
-    → lanes_of ra bct
-    ≡ record {
-      refusal = accepted;
-      words = 1 + (ra % 8 + bct) / 8;
-      positions = (2 * 2 ^ bct % 2 ^ 32 - 1) * 2 ^ (ra % 8) % 2 ^ 32;
-    }
+    → lanes_of ra bct ≡ Ok record { words = 1 + (ra % 8 + bct) / 8; positions = (2 * 2 ^ bct % 2 ^ 32 - 1) * 2 ^ (ra % 8) % 2 ^ 32 }
 unfolding lanes_of
 lanes_accepted ra bct l = rw (within_in 0 7 bct (omega arith) l, words_of_sum ra bct l, positions_of_shift ra bct l)
 
-pub lanes_refused : (ra bct : ℕ) → 7 < bct → lanes_of ra bct ≡ record { refusal = field_range; words = 0; positions = 0 }
+pub lanes_refused : (ra bct : ℕ) → 7 < bct → lanes_of ra bct ≡ Err FieldRange
 unfolding lanes_of
 lanes_refused ra bct l = rw (within_over 0 7 bct l)
 

@@ -6,10 +6,12 @@ use mathlib.Core.Path.{◌≡◌, refl, sym, ◌∙◌}
 use native.Mathlib.Omega.{arith}
 use lib.Dec.{leb, eqb}
 use borrow.Author.Tests.{le-leb, lt-leb}
-use Rattle.order.specs.Refusal.{accepted}
+use Rattle.std.specs.Prelude.{Result, Ok, Err}
+use Rattle.order.specs.declared.Refusal.{Refusal}
+use Rattle.order.specs.declared.Refusal.TheVariants.{FieldRange}
 use Rattle.numeric.specs.Range.{within}
 use Rattle.bus.specs.declared.transfer.SignalPlan.{SignalPlan}
-use Rattle.bus.specs.Transfer.{et_raised_at_request, plan_of, refused_plan, without_request, LockChanges, RefusesPlan}
+use Rattle.bus.specs.Transfer.{et_raised_at_request, plan_of, without_request, LockChanges, RefusesPlan}
 use Rattle.numeric.proofs.Cases.{le_or_lt}
 use Rattle.numeric.proofs.RangeLaws.{within_in, within_under, within_over}
 
@@ -23,16 +25,16 @@ all_but n k cycle l =
 
 pub plan_accepted : (n cycle : ℕ) (locked : Bool) → n ≤ 64 → 1 ≤ cycle → cycle ≤ n
     → plan_of n cycle locked
-    ≡ record { refusal = accepted; bs = eqb cycle 1; bur = leb (cycle + 1) n; et = leb (cycle + 2) n; et_at_request = et_raised_at_request n locked }
+    ≡ Ok record { bs = eqb cycle 1; bur = leb (cycle + 1) n; et = leb (cycle + 2) n; et_at_request = et_raised_at_request n locked }
 unfolding plan_of
 plan_accepted n cycle locked most from to =
     rw (within_in 1 64 n (omega arith) most, within_in 1 n cycle from to, all_but n 1 cycle from, all_but n 2 cycle from)
 
-pub plan_no_transfer : (n cycle : ℕ) (locked : Bool) → within 1 64 n ≡ false → plan_of n cycle locked ≡ refused_plan
+pub plan_no_transfer : (n cycle : ℕ) (locked : Bool) → within 1 64 n ≡ false → plan_of n cycle locked ≡ Err FieldRange
 unfolding plan_of
 plan_no_transfer n cycle locked e = rw e
 
-pub plan_no_cycle : (n cycle : ℕ) (locked : Bool) → within 1 n cycle ≡ false → plan_of n cycle locked ≡ refused_plan
+pub plan_no_cycle : (n cycle : ℕ) (locked : Bool) → within 1 n cycle ≡ false → plan_of n cycle locked ≡ Err FieldRange
 unfolding plan_of
 plan_no_cycle n cycle locked e = rw (e, and-false (within 1 64 n))
 
@@ -45,13 +47,13 @@ same_request : (n cycle : ℕ) → et_raised_at_request n true ≡ et_raised_at_
 unfolding plan_of
 same_request n cycle e = rw e
 
-alike : (t : Bool) (p q r : SignalPlan) → without_request p ≡ without_request q → without_request (cond t p r) ≡ without_request (cond t q r)
+alike : (t : Bool) (p q r : Result SignalPlan Refusal) → without_request p ≡ without_request q → without_request (cond t p r) ≡ without_request (cond t q r)
 alike true p q r e = e
 alike false p q r e = refl
 
 nothing_else_lem : (n cycle : ℕ) → without_request (plan_of n cycle true) ≡ without_request (plan_of n cycle false)
 unfolding plan_of without_request
-nothing_else_lem n cycle = alike (within 1 64 n && within 1 n cycle) _ _ refused_plan refl
+nothing_else_lem n cycle = alike (within 1 64 n && within 1 n cycle) _ _ (Err FieldRange) refl
 
 no_other_lem : (n cycle : ℕ) → n ≢ 1 → plan_of n cycle true ≡ plan_of n cycle false
 no_other_lem n cycle ne =
@@ -66,13 +68,12 @@ pub lock_changes : LockChanges
 unfolding within plan_of et_raised_at_request
 lock_changes = record { nothing_else = nothing_else_lem; no_other = no_other_lem; one = (refl, refl) }
 
--- the two ways to be refused, in the paper's numbers and field by field
+-- the two ways to be refused, in the paper's numbers
 outside : (most n : ℕ) → (n ≡ 0) ⊎ (most < n) → within 1 most n ≡ false
 outside most n h = ⊎_elim (λ (e : n ≡ 0). within_under 1 most n (omega arith)) (λ (l : most < n). within_over 1 most n l) h
 
 pub refuses_plan : RefusesPlan
-unfolding refused_plan
 refuses_plan = record {
-  no_transfer = λ n cycle locked h. plan_no_transfer n cycle locked (outside 64 n h);
-  no_cycle = λ n cycle locked h. plan_no_cycle n cycle locked (outside n cycle h);
+  no_transfer = λ n cycle locked h. let e = plan_no_transfer n cycle locked (outside 64 n h) in (e, rw e);
+  no_cycle = λ n cycle locked h. let e = plan_no_cycle n cycle locked (outside n cycle h) in (e, rw e);
 }

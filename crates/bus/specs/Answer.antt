@@ -1,11 +1,10 @@
 -- Answer codes and their classes (document 01, "Answer codes", from the standard's Table 7; bit 0 read as most significant is a house rule).
-use Rattle.std.specs.Prelude.{ℕ, ◌+◌, ◌-◌, Bool, true, false, cond, ◌≡◌, leb, eqb}
-use Rattle.order.specs.Refusal.{accepted, field_range}
+use Rattle.std.specs.Prelude.{ℕ, ◌+◌, ◌-◌, Bool, true, false, Result, Ok, Err, cond, ◌≡◌, leb, eqb}
+use Rattle.order.specs.declared.Refusal.{Refusal}
+use Rattle.order.specs.declared.Refusal.TheVariants.{FieldRange}
 use Rattle.numeric.specs.Range.{within}
 use Rattle.bus.specs.declared.answer.Class.{Class}
 use Rattle.bus.specs.declared.answer.Class.TheVariants.{NoError, NoErrorLock, ReservedNoError, UserNoError, HardwareError, IllegalCommand, BusSequenceError, ReservedError, UserError}
-use Rattle.bus.specs.declared.answer.CodeFound.{CodeFound}
-use Rattle.bus.specs.declared.answer.CodeFound.TheVariants.{Code, Refused}
 
 -- the class of a code, row by row
 unfoldable pub class_of : ℕ → Class
@@ -45,17 +44,13 @@ in_row (ReservedError n) = within 131 191 n
 in_row (UserError n) = within 192 255 (n + 192)
 
 -- a class gives its code back; refused where its carried number is not one of its row
-unfoldable pub code_of : Class → CodeFound
-code_of k = cond (in_row k) (Code (code_number k)) (Refused field_range)
+unfoldable pub code_of : Class → Result ℕ Refusal
+code_of k = cond (in_row k) (Ok (code_number k)) (Err FieldRange)
 
--- the number of refusal and the code that an answer gives; refused, the code is 0
-unfoldable pub refusal_of : CodeFound → ℕ
-refusal_of (Code c) = accepted
-refusal_of (Refused n) = n
-
-unfoldable pub code_found : CodeFound → ℕ
-code_found (Code c) = c
-code_found (Refused n) = 0
+-- the code that an answer gives; refused, the code is 0
+unfoldable pub code_found : Result ℕ Refusal → ℕ
+code_found (Ok c) = c
+code_found (Err refusal) = 0
 
 -- whether the asker reports a bus error
 unfoldable pub is_error : ℕ → Bool
@@ -75,10 +70,10 @@ error_row (UserError n) = true
 
 -- the table's rows of one code, and the first code of each reserved row, read both ways
 pub record Rows : Type 0 where
-  pub no_error : (class_of 0 ≡ NoError) × (code_of NoError ≡ Code 0)
-  pub no_error_lock : (class_of 1 ≡ NoErrorLock) × (code_of NoErrorLock ≡ Code 1)
-  pub reserved_no_error : (class_of 2 ≡ ReservedNoError 2) × (code_of (ReservedNoError 2) ≡ Code 2)
-  pub hardware_error : (class_of 128 ≡ HardwareError) × (code_of HardwareError ≡ Code 128)
-  pub illegal_command : (class_of 129 ≡ IllegalCommand) × (code_of IllegalCommand ≡ Code 129)
-  pub bus_sequence_error : (class_of 130 ≡ BusSequenceError) × (code_of BusSequenceError ≡ Code 130)
-  pub reserved_error : (class_of 131 ≡ ReservedError 131) × (code_of (ReservedError 131) ≡ Code 131)
+  pub no_error : (class_of 0 ≡ NoError) × (code_of NoError ≡ Ok 0)
+  pub no_error_lock : (class_of 1 ≡ NoErrorLock) × (code_of NoErrorLock ≡ Ok 1)
+  pub reserved_no_error : (class_of 2 ≡ ReservedNoError 2) × (code_of (ReservedNoError 2) ≡ Ok 2)
+  pub hardware_error : (class_of 128 ≡ HardwareError) × (code_of HardwareError ≡ Ok 128)
+  pub illegal_command : (class_of 129 ≡ IllegalCommand) × (code_of IllegalCommand ≡ Ok 129)
+  pub bus_sequence_error : (class_of 130 ≡ BusSequenceError) × (code_of BusSequenceError ≡ Ok 130)
+  pub reserved_error : (class_of 131 ≡ ReservedError 131) × (code_of (ReservedError 131) ≡ Ok 131)

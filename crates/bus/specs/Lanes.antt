@@ -1,6 +1,7 @@
 -- The byte lanes of a register access (document 01, "Parity, lanes, levels"; the standard's 4.2.2, item 6).
-use Rattle.std.specs.Prelude.{ℕ, ◌+◌, ◌%◌, cond, leb}
-use Rattle.order.specs.Refusal.{accepted, field_range}
+use Rattle.std.specs.Prelude.{ℕ, ◌+◌, ◌%◌, Result, Ok, Err, cond, leb}
+use Rattle.order.specs.declared.Refusal.{Refusal}
+use Rattle.order.specs.declared.Refusal.TheVariants.{FieldRange}
 use Rattle.numeric.specs.Range.{within}
 use Rattle.numeric.specs.Bits.{from_bits}
 use Rattle.bus.specs.declared.lanes.ByteLanes.{ByteLanes}
@@ -17,9 +18,6 @@ positions_of ra bct = from_bits 16 (carried_at ra bct)
 unfoldable pub words_of : ℕ → ℕ → ℕ
 words_of ra bct = cond (leb (ra % 8 + bct) 7) 1 2
 
--- BCT above 7 is refused, with no words and no positions
-unfoldable pub lanes_of : ℕ → ℕ → ByteLanes
-lanes_of ra bct =
-    cond (within 0 7 bct)
-    (record { refusal = accepted; words = words_of ra bct; positions = positions_of ra bct })
-    (record { refusal = field_range; words = 0; positions = 0 })
+-- BCT above 7 is refused
+unfoldable pub lanes_of : ℕ → ℕ → Result ByteLanes Refusal
+lanes_of ra bct = cond (within 0 7 bct) (Ok record { words = words_of ra bct; positions = positions_of ra bct }) (Err FieldRange)

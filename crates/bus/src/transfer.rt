@@ -1,50 +1,29 @@
 // The signals of one transfer (4.1), which may be locked (4.6).
 ghost use Rattle.std.specs.Prelude.{◌≡◌};
-ghost use Rattle.bus.specs.Transfer.{plan_of, refused_plan};
+ghost use Rattle.bus.specs.Transfer.{plan_of};
 
-use order::FIELD_RANGE;
+use order::Refusal;
 
 // The levels in one cycle, and the level of ET at the request; true is asserted.
-#[derive(Clone, Copy)]
+#[derive(Clone, Copy, Debug, PartialEq, Eq)]
 pub struct SignalPlan {
-    pub refusal: u8,
     pub bs: bool,
     pub bur: bool,
     pub et: bool,
     pub et_at_request: bool,
 }
 
-fn refused() -> SignalPlan
-    ensures { result ≡ refused_plan }
-{
-    SignalPlan {
-        refusal: FIELD_RANGE,
-        bs: false,
-        bur: false,
-        et: false,
-        et_at_request: false,
-    }
-}
-
-pub fn plan(cycles: u32, cycle: u32, locked: bool) -> SignalPlan
+#[tactic(auto, unfolding(crate::specs::Transfer::plan_of, crate::specs::Transfer::et_raised_at_request, numeric::specs::Range::within))]
+pub fn plan(cycles: u32, cycle: u32, locked: bool) -> Result<SignalPlan, Refusal>
     ensures { result ≡ plan_of cycles cycle locked }
 {
-    if 64 < cycles {
-        return refused();
+    if cycles > 64 || cycle < 1 || cycle > cycles {
+        return Err(Refusal::FieldRange);
     }
-    if cycle < 1 {
-        return refused();
-    }
-    if cycles < cycle {
-        return refused();
-    }
-    let next = cycle + 1;
-    let after = cycle + 2;
-    SignalPlan {
-        refusal: 0,
+    Ok(SignalPlan {
         bs: cycle == 1,
-        bur: next <= cycles,
-        et: after <= cycles,
-        et_at_request: (2 <= cycles) | locked,
-    }
+        bur: cycle + 1 <= cycles,
+        et: cycle + 2 <= cycles,
+        et_at_request: cycles >= 2 || locked,
+    })
 }
