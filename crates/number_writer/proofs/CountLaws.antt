@@ -1,5 +1,5 @@
 -- The rule for a number's groups: it counts the groups of the number's spelling, and no fewer hold the number.
-use Prim.Native.Nat.{ℕ, zero, suc, ◌+◌, ◌*◌, ◌-◌, ◌/◌, ◌^◌, ◌≤◌, ◌<◌}
+use Prim.Native.Nat.{ℕ, zero, suc, ◌+◌, ◌*◌, ◌-◌, ◌/◌, ◌^◌, ◌≤◌, ◌<◌, max}
 use native.Mathlib.Nat.{mul-suc, add-sub_cancel_left}
 use native.Mathlib.Omega.{arith}
 use mathlib.Core.Path.{◌≡◌, refl, sym, ap, ◌∙◌}
@@ -11,10 +11,14 @@ use lib.Dec.{ltb, lit<}
 use lib.ListN.{length, length-append}
 use lib.Pow.{pow-add, pow_mono}
 use borrow.Author.Tests.{ltb-true, ltb-false, le-leb, lt-leb, eq-eqb, ne_eqb}
+use Rattle.std.specs.Int.{div_ceil}
 use Rattle.numeric.proofs.Cases.{le_or_lt}
 use Rattle.number.specs.Number.{groups, spell_groups, spell, spell_all, filled}
 use Rattle.number_writer.specs.GroupCount.{least_from, significant_bits, group_count, size_of, meaning, Holds, CountsGroups, SizesAll}
 use Rattle.number.proofs.NumberLaws.{spell_one, spell_more}
+use Rattle.number_writer.proofs.SpellLaws.{spell_short}
+use Rattle.std.specs.List.{sum_by}
+use Rattle.std.proofs.lemmas.List.Sums.{sum_by-cons}
 
 -- ---- significant bits
 
@@ -56,12 +60,21 @@ module _ (n : ℕ) where
   bits_fewest k h = ⊎_elim (λ w. w) (λ w. absurd (let p = (bits_least n).below k w in omega arith)) (le_or_lt (significant_bits n) k)
 
   -- the bits that stand below the leading zeros
-  pub bits_leading : 0 < n → n < 2 ^ 64 → 64 - count_leading_zeros 64 n ≡ significant_bits n
+  bits_leading : 0 < n → n < 2 ^ 64 → 64 - count_leading_zeros 64 n ≡ significant_bits n
   bits_leading p h =
       let (j, e, lo, hi) = leading_top 64 n p h in
       let b : 64 - count_leading_zeros 64 n ≡ suc j = ap (λ (k : ℕ). k - count_leading_zeros 64 n) (sym e) ∙ add-sub_cancel_left (count_leading_zeros 64 n) (suc j) in
       let l : j < significant_bits n = power_order j (significant_bits n) n lo (bits_hold h) in
       omega (arith, b, bits_fewest (suc j) hi)
+
+  -- the rule by the leading zeros
+  pub count_leading : n < 2 ^ 64 → max (div_ceil (64 - count_leading_zeros 64 n) 7) 1 ≡ group_count n
+  unfolding group_count count_leading_zeros
+  count_leading h =
+      ⊎_elim
+      (λ (p : 1 ≤ n). let b = bits_leading p h in let l = power_order 0 (significant_bits n) n p (bits_hold h) in rw (ne_eqb n 0 (λ z. omega arith)) (omega (arith, b)))
+      (λ (p : n < 1). let z : n ≡ 0 = omega arith in rw z)
+      (le_or_lt 1 n)
 
 -- ---- the groups of a spelling
 
@@ -167,6 +180,17 @@ pub size_exact : (ns : List ℕ) → length (spell_all ns) ≡ size_of ns
 unfolding spell_all size_of
 size_exact [] = refl
 size_exact (n ∷ ns) = length-append (spell n) (spell_all ns) ∙ omega (arith, count_exact n, size_exact ns)
+
+-- the sum over the numbers, no more than ten bytes for each
+pub size_summed : (ns : List ℕ) → sum_by group_count ns ≡ size_of ns
+unfolding size_of
+size_summed [] = refl
+size_summed (n ∷ ns) = sum_by-cons group_count n ns ∙ ap (λ (k : ℕ). group_count n + k) (size_summed ns)
+
+pub size_most : (ns : List ℕ) → size_of ns ≤ groups * length ns
+unfolding size_of
+size_most [] = omega arith
+size_most (n ∷ ns) = omega (arith, size_most ns, spell_short n, count_exact n)
 
 pub sizes_all : SizesAll
 unfolding SizesAll

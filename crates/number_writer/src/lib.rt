@@ -7,14 +7,11 @@ ghost use Rattle.number.specs.Number.{spell, spell_all, filled};
 ghost use Rattle.number_writer.specs.GroupCount.{group_count, size_of};
 
 // The groups of a number: its significant bits divided by seven, rounded up; one group for zero.
+#[tactic(auto, using(crate::proofs::CountLaws::count_leading))]
 fn group_count(n: u64) -> usize
     ensures { result ≡ group_count n }
 {
-    if n == 0 {
-        return 1;
-    }
-    let significant_bits = 64 - u64::leading_zeros(n);
-    ((significant_bits + 6) / 7) as usize
+    (64 - n.leading_zeros()).div_ceil(7).max(1) as usize
 }
 
 // Spells `n` from `at` on; the place after it. Of the groups from `next` on, `value` is still to be spelled.
@@ -37,13 +34,7 @@ fn put_number(out: &mut [u8], at: usize, n: u64) -> usize
 pub fn numbers_size(numbers: &[u64]) -> usize
     ensures { result ≡ size_of numbers.now }
 {
-    let mut size: usize = 0;
-    let mut i = 0;
-    while i < numbers.len() {
-        size += group_count(numbers[i]);
-        i += 1;
-    }
-    size
+    numbers.iter().map(|&n| group_count(n)).sum()
 }
 
 // Spells the numbers at the start of `out`, where all of them have room. The answer is how many bytes spell them.
@@ -54,11 +45,9 @@ pub fn write_numbers(numbers: &[u64], out: &mut [u8]) -> usize
     if out.len() < size {
         return size;
     }
-    let mut at: usize = 0;
-    let mut i = 0;
-    while i < numbers.len() {
-        at = put_number(out, at, numbers[i]);
-        i += 1;
+    let mut at = 0;
+    for &n in numbers {
+        at = put_number(out, at, n);
     }
     size
 }
