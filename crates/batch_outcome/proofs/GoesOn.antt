@@ -4,7 +4,7 @@ use mathlib.Core.Path.{◌≡◌, refl}
 use mathlib.Core.Bool.{Bool, true, false, ◌&&◌, false≢true}
 use lib.Dec.{eqb, ltb}
 use borrow.Author.Tests.{eqb-true, ltb-true}
-use Rattle.batch_rules.specs.declared.Outcome.{Outcome}
+use Rattle.batch_rules.specs.Outcome.{Outcome}
 
 abbrev pub goes : Outcome → ℕ → Bool
 goes s n = eqb s.refusal 0 && ltb s.index n

@@ -1,2 +1,2 @@
+pub mod RefusedLaws
 pub mod GoesOn
-pub mod AtMost

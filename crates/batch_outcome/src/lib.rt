@@ -3,33 +3,29 @@
 
 ghost use Rattle.std.specs.Prelude.{◌≡◌, ◌&&◌, eqb, ltb};
 ghost use Rattle.order.specs.Refusal.{accepted};
-ghost use Rattle.crossing.specs.Capped.{capped};
 ghost use Rattle.batch_rules.specs.Batch.{opened};
 ghost use Rattle.batch_rules.specs.Numbers.{refused_by};
+ghost use Rattle.batch_rules.specs.Outcome.{refusal_told, told};
 
 use batch_rules::Outcome;
 use coherence::Directory;
-use order::NO_ROOM;
+use order::Refusal;
 
 // The longest list.
 pub const MOST_ACCESSES: usize = 65536;
 
 // The outcome before the first access: refused where the list is too long or the values have too little room.
+#[tactic(auto, unfolding(batch_rules::specs::Outcome::told, batch_rules::specs::Batch::opened, batch_rules::specs::Batch::none))]
 pub fn open(directory: Directory, count: usize, room: usize) -> Outcome
-    ensures { result ≡ opened directory count room }
+    ensures { told result ≡ opened directory count room }
 {
-    if count <= MOST_ACCESSES {
-        if count <= room {
-            return Outcome {
-                refusal: 0,
-                index: 0,
-                orders: 0,
-                directory,
-            };
-        }
-    }
+    let refusal = if count <= MOST_ACCESSES && count <= room {
+        None
+    } else {
+        Some(Refusal::NoRoom)
+    };
     Outcome {
-        refusal: NO_ROOM,
+        refusal,
         index: 0,
         orders: 0,
         directory,
@@ -37,30 +33,19 @@ pub fn open(directory: Directory, count: usize, room: usize) -> Outcome
 }
 
 // Whether an access of a list of `count` is to be made next: none was refused, and not all are made.
+#[tactic(auto, unfolding(batch_rules::specs::Outcome::told))]
 pub fn goes_on(s: Outcome, count: usize) -> bool
-    ensures { result ≡ (eqb s.refusal accepted && ltb s.index count) }
+    ensures { result ≡ (eqb (told s).refusal accepted && ltb (told s).index count) }
 {
-    (s.refusal == 0) & (s.index < count)
+    s.refusal.is_none() && s.index < count
 }
 
-// The outcome, refused with a number where nothing is refused before.
-pub fn refused_by(number: u8, s: Outcome) -> Outcome
-    ensures { result ≡ refused_by number s }
+// The outcome, refused for a reason of the list's own where nothing is refused before.
+pub fn refused_by(refusal: Option<Refusal>, s: Outcome) -> Outcome
+    ensures { told result ≡ refused_by (refusal_told refusal) (told s) }
 {
-    let before = s.refusal;
-    let directory = s.directory;
-    let refusal = if before == 0 { number } else { before };
     Outcome {
-        refusal,
-        index: s.index,
-        orders: s.orders,
-        directory,
+        refusal: s.refusal.or(refusal),
+        ..s
     }
-}
-
-// A number, or `most` where it is above that.
-pub fn at_most(most: usize, n: usize) -> usize
-    ensures { result ≡ capped most n }
-{
-    if n <= most { n } else { most }
 }

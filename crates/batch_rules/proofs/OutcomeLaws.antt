@@ -30,7 +30,7 @@ module _ (d : Directory) where
   answer_is None = refl
   answer_is (Some refusal) = refl
 
-  refusal_apart : (r s : Option Refusal) → refusal_told r ≡ refusal_told s → r ≡ s
+  pub refusal_apart : (r s : Option Refusal) → refusal_told r ≡ refusal_told s → r ≡ s
   refusal_apart r s e =
       let f : told_call d (answered r) ≡ told_call d (answered s) =
       answer_is r ∙ ap (λ (n : ℕ). record { refusal = n; value = 0; orders = packed []; directory = d }) e ∙ sym (answer_is s) in

@@ -1,11 +1,8 @@
-use borrow.Author.Tests.{eq-eqb, ne_eqb}
+use Rattle.batch_rules.specs.Outcome.{told}
 use Rattle.batch_rules.specs.Numbers.{refused_by}
+use Rattle.batch_outcome.proofs.RefusedLaws.{first_told}
 use Rattle.batch_outcome.proofs.refused_by.Goals as goal
 
-pub returns-then-before-eq0 : goal.returns-then-before-eq0
-unfolding refused_by
-returns-then-before-eq0 c = rw (eq-eqb _ 0 c.if-before-eq0.true)
-
-pub returns-else-before-eq0 : goal.returns-else-before-eq0
-unfolding refused_by
-returns-else-before-eq0 c = rw (ne_eqb _ 0 c.if-before-eq0.false)
+pub returns : goal.returns
+unfolding told refused_by
+returns c = rw (c.or.ensures, first_told c.args.s.directory c.args.s.refusal c.args.refusal)
