@@ -1,48 +1,55 @@
 -- The answers of reading and writing, with their tests in order, and the fields of a half.
 use Prim.Native.Nat.{ℕ, ◌+◌, ◌*◌, ◌%◌, ◌^◌, ◌<◌, ◌≤◌}
 use mathlib.Core.Path.{◌≡◌, refl}
+use mathlib.Core.List.{List, [], ◌∷◌}
+use Rattle.std.specs.Prelude.{Result, Ok, Err, map}
 use mathlib.Core.Bool.{Bool, true, false, cond, ◌&&◌}
 use native.Mathlib.Omega.{arith}
 use lib.Dec.{eqb, leb}
 use lib.Pow.{mod-pow-add, mod-mod-pow, field}
-use Rattle.order.specs.Refusal.{first_refusal}
+use Rattle.order.specs.declared.Refusal.{Refusal}
+use Rattle.order.specs.declared.Refusal.TheVariants.{UnknownKind, FieldRange, HalvesDiffer}
+use Rattle.order.specs.Refusal.{number_of, first_refusal}
 use Rattle.jbus.specs.declared.interrupt.AddressCycle.{AddressCycle}
-use Rattle.jbus.specs.declared.interrupt.InterruptRead.{InterruptRead}
-use Rattle.jbus.specs.declared.interrupt.InterruptRead.TheVariants as read
-use Rattle.jbus.specs.declared.interrupt.CycleWritten.TheVariants as wrote
+use Rattle.jbus.specs.declared.interrupt.Interrupt.{Interrupt}
 use Rattle.jbus.specs.Device.{device_of}
-use Rattle.jbus.specs.Interrupt.{transaction_of, reserved_of, target_of, agent_of, low_reserved_of, halves_test, transaction_test, reserved_test, read_refusal, interrupt_of, interrupt_read, write_refusal, half_of, cycle_of, cycle_written}
+use Rattle.jbus.specs.Interrupt.{transaction_of, reserved_of, target_of, agent_of, low_reserved_of, Test, numbered, tested, halves_test, transaction_test, reserved_test, reading_tests, interrupt_of, interrupt_read, read_refusal, half_of, writing_tests, cycle_of, cycle_written, write_refusal}
 use Rattle.jbus.specs.RoundTrip.{Readable}
 
 -- ---- the tests in their order
 
+first_tested : {A : Type 0} (x : A) (ts : List Test) → number_of (tested ts x) ≡ first_refusal (map numbered ts)
+unfolding tested numbered first_refusal
+first_tested x [] = refl
+first_tested x (t ∷ ts) = on t.passes (first_tested x ts)
+  where
+    on : (b : Bool) → number_of (tested ts x) ≡ first_refusal (map numbered ts)
+        → number_of (cond b (tested ts x) (Err t.refusal)) ≡ cond b (first_refusal (map numbered ts)) (numbered t).number
+    on true rest = rest
+    on false rest = refl
+
+pub read_first : (c : AddressCycle) → read_refusal c ≡ first_refusal (map numbered (reading_tests c))
+unfolding read_refusal interrupt_read
+read_first c = first_tested (interrupt_of c.lower) (reading_tests c)
+
+pub write_first : (t a : ℕ) → write_refusal t a ≡ first_refusal (map numbered (writing_tests t a))
+unfolding write_refusal cycle_written
+write_first t a = first_tested (cycle_of t a) (writing_tests t a)
+
 -- what is read of two equal halves
-unfoldable pub half_read : ℕ → InterruptRead
+unfoldable pub half_read : ℕ → Result Interrupt Refusal
 half_read w =
     cond (eqb (transaction_of w) 0x14)
-    (cond (eqb (reserved_of w) 0 && eqb (low_reserved_of w) 0) (read.Interrupt (interrupt_of w)) (read.Refused 8))
-    (read.Refused 7)
+    (cond (eqb (reserved_of w) 0 && eqb (low_reserved_of w) 0) (Ok (interrupt_of w)) (Err FieldRange))
+    (Err UnknownKind)
 
-pub read_tests : (c : AddressCycle) → interrupt_read c ≡ cond (eqb c.upper c.lower) (half_read c.lower) (read.Refused 17)
-unfolding interrupt_read read_refusal first_refusal halves_test transaction_test reserved_test half_read
-read_tests c =
-    on (eqb c.upper c.lower) (eqb (transaction_of c.lower) 0x14) (eqb (reserved_of c.lower) 0 && eqb (low_reserved_of c.lower) 0)
-  where
-    on : (h t z : Bool)
-        → cond (eqb (cond h (cond t (cond z 0 8) 7) 17) 0) (read.Interrupt (interrupt_of c.lower)) (read.Refused (cond h (cond t (cond z 0 8) 7) 17))
-        ≡ cond h (cond t (cond z (read.Interrupt (interrupt_of c.lower)) (read.Refused 8)) (read.Refused 7)) (read.Refused 17)
-    on true true true = refl
-    on true true false = refl
-    on true false z = refl
-    on false t z = refl
+pub read_tests : (c : AddressCycle) → interrupt_read c ≡ cond (eqb c.upper c.lower) (half_read c.lower) (Err HalvesDiffer)
+unfolding interrupt_read tested reading_tests halves_test transaction_test reserved_test half_read
+read_tests c = refl
 
-pub write_tests : (t a : ℕ) → cycle_written t a ≡ cond (leb t 31 && leb a 31) (wrote.Cycle (cycle_of t a)) (wrote.Refused 8)
-unfolding cycle_written write_refusal first_refusal
-write_tests t a = on (leb t 31 && leb a 31)
-  where
-    on : (b : Bool) → cond (eqb (cond b 0 8) 0) (wrote.Cycle (cycle_of t a)) (wrote.Refused (cond b 0 8)) ≡ cond b (wrote.Cycle (cycle_of t a)) (wrote.Refused 8)
-    on true = refl
-    on false = refl
+pub write_tests : (t a : ℕ) → cycle_written t a ≡ cond (leb t 31 && leb a 31) (Ok (cycle_of t a)) (Err FieldRange)
+unfolding cycle_written tested writing_tests
+write_tests t a = refl
 
 -- ---- the fields of what is written
 

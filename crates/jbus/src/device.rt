@@ -1,14 +1,24 @@
 // What an agent ID stands for (source document 000, Table 5-3).
 ghost use Rattle.std.specs.Prelude.{◌≡◌};
-ghost use Rattle.jbus.specs.Device.{device_of};
+ghost use Rattle.jbus.specs.Device.{device_number, device_of};
 
-#[derive(Clone, Copy)]
+// The devices by number, in the order of document 02's list; the numbers are ours.
+#[derive(Clone, Copy, Debug, PartialEq, Eq)]
 pub enum Device {
-    Processor,
-    NotSupported,
-    Illegal,
-    Bridge0,
-    Bridge1,
+    Processor = 0,
+    NotSupported = 1,
+    Illegal = 2,
+    Bridge0 = 3,
+    Bridge1 = 4,
+}
+
+impl From<Device> for u32 {
+    ghost from_gives = { λ device n. n ≡ device_number device };
+
+    #[tactic(auto, unfolding(crate::specs::Device::device_number))]
+    fn from(device: Device) -> u32 {
+        device as u32
+    }
 }
 
 // By an agent's low four bits.

@@ -3,7 +3,7 @@ ghost use Rattle.std.specs.Prelude.{◌≡◌};
 ghost use Rattle.jbus.specs.Interrupt.{interrupt_read, cycle_written};
 
 use crate::device::{Device, device_of};
-use order::{FIELD_RANGE, HALVES_DIFFER, UNKNOWN_KIND};
+use order::Refusal;
 
 // The weight of each field's lowest bit.
 const AGENT_WEIGHT: u64 = 1 << 31;
@@ -20,71 +20,54 @@ const IGNORED_WEIGHT: u64 = 1 << 48;
 const INTERRUPT_REQUEST: u64 = 0x14;
 
 // J_AD[127:64] and J_AD[63:0].
-#[derive(Clone, Copy)]
+#[derive(Clone, Copy, Debug, PartialEq, Eq)]
 pub struct AddressCycle {
     pub upper: u64,
     pub lower: u64,
 }
 
 // The target's thread, the source's agent ID, and the device that it names.
-#[derive(Clone, Copy)]
+#[derive(Clone, Copy, Debug, PartialEq, Eq)]
 pub struct Interrupt {
     pub target: u32,
     pub agent: u32,
     pub device: Device,
 }
 
-#[derive(Clone, Copy)]
-pub enum InterruptRead {
-    Interrupt(Interrupt),
-    Refused(u8),
-}
-
-#[derive(Clone, Copy)]
-pub enum CycleWritten {
-    Cycle(AddressCycle),
-    Refused(u8),
-}
-
-pub fn read_interrupt(cycle: AddressCycle) -> InterruptRead
+#[tactic(auto, using(crate::proofs::InterruptLaws::read_tests), unfolding(crate::proofs::InterruptLaws::half_read, crate::specs::Interrupt::transaction_of, crate::specs::Interrupt::reserved_of, crate::specs::Interrupt::low_reserved_of, crate::specs::Interrupt::target_of, crate::specs::Interrupt::agent_of, crate::specs::Interrupt::interrupt_of))]
+pub fn read_interrupt(cycle: AddressCycle) -> Result<Interrupt, Refusal>
     ensures { result ≡ interrupt_read cycle }
 {
     let half = cycle.lower;
     if cycle.upper != half {
-        return InterruptRead::Refused(HALVES_DIFFER);
+        return Err(Refusal::HalvesDiffer);
     }
     if half % IGNORED_WEIGHT / TRANSACTION_WEIGHT != INTERRUPT_REQUEST {
-        return InterruptRead::Refused(UNKNOWN_KIND);
+        return Err(Refusal::UnknownKind);
     }
-    if half % TRANSACTION_WEIGHT / RESERVED_WEIGHT != 0 {
-        return InterruptRead::Refused(FIELD_RANGE);
-    }
-    if half % AGENT_WEIGHT != 0 {
-        return InterruptRead::Refused(FIELD_RANGE);
+    if half % TRANSACTION_WEIGHT / RESERVED_WEIGHT != 0 || half % AGENT_WEIGHT != 0 {
+        return Err(Refusal::FieldRange);
     }
     let target = (half % RESERVED_WEIGHT / TARGET_WEIGHT) as u32;
     let agent = (half % TARGET_WEIGHT / AGENT_WEIGHT) as u32;
-    let device = device_of(agent);
-    InterruptRead::Interrupt(Interrupt {
+    Ok(Interrupt {
         target,
         agent,
-        device,
+        device: device_of(agent),
     })
 }
 
-pub fn write_interrupt(target: u32, agent: u32) -> CycleWritten
+#[tactic(auto, using(crate::proofs::InterruptLaws::write_tests), unfolding(crate::specs::Interrupt::half_of, crate::specs::Interrupt::cycle_of))]
+pub fn write_interrupt(target: u32, agent: u32) -> Result<AddressCycle, Refusal>
     ensures { result ≡ cycle_written target agent }
 {
-    if 31 < target {
-        return CycleWritten::Refused(FIELD_RANGE);
-    }
-    if 31 < agent {
-        return CycleWritten::Refused(FIELD_RANGE);
+    if target > 31 || agent > 31 {
+        return Err(Refusal::FieldRange);
     }
     let half = INTERRUPT_REQUEST * TRANSACTION_WEIGHT
-        + target as u64 * TARGET_WEIGHT
-        + agent as u64 * AGENT_WEIGHT;
-    CycleWritten::Cycle(AddressCycle {
+        + u64::from(target) * TARGET_WEIGHT
+        + u64::from(agent) * AGENT_WEIGHT;
+    Ok(AddressCycle {
         upper: half,
         lower: half,
     })

@@ -5,6 +5,4 @@ mod device;
 mod interrupt;
 
 pub use device::Device;
-pub use interrupt::{
-    AddressCycle, CycleWritten, Interrupt, InterruptRead, read_interrupt, write_interrupt,
-};
+pub use interrupt::{AddressCycle, Interrupt, read_interrupt, write_interrupt};
