@@ -1,6 +1,5 @@
 -- Each record in its bytes, by computing the definitions.
 use mathlib.Core.Path.{refl}
-use mathlib.Core.Option.{Option-elim}
 use Rattle.order.specs.Command.{command_number, command_of}
 use Rattle.order.specs.Flag.{flag}
 use Rattle.number.specs.Number.{limit_of, carried, read_groups, refusing, number_at, spell_groups, spell, spell_all, filled}
@@ -12,7 +11,7 @@ use Rattle.tape_format.specs.Size.{record_size, size_told}
 use Rattle.tape_format.specs.Examples.{Spelled, ordered, told_of, refused_at, two_to32, Examples}
 
 pub examples : Examples
-unfolding Option-elim command_number command_of limit_of carried read_groups refusing number_at spell_groups spell spell_all filled retried_most allowed ruled field_at flag load store flush order answer register loaded stamp layout_of and_then and_command fields_at kind_at record_at record_told kind_of fields_of fits fits_command valid bytes_of written_of space_after least_from significant_bits group_count size_of record_size size_told Spelled ordered told_of refused_at two_to32
+unfolding command_number command_of limit_of carried read_groups refusing number_at spell_groups spell spell_all filled retried_most allowed ruled field_at flag load store flush order answer register loaded stamp layout_of and_then and_command fields_at kind_at record_at record_told kind_of fields_of fits fits_command valid bytes_of written_of space_after least_from significant_bits group_count size_of record_size size_told Spelled ordered told_of refused_at two_to32
 examples =
     record {
       kind0 = (refl, refl, refl, refl);

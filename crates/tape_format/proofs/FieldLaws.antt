@@ -8,9 +8,10 @@ use lib.Dec.{leb}
 use borrow.Author.Tests.{leb-true}
 use Rattle.order.specs.declared.Command.{Command}
 use Rattle.order.specs.declared.Command.TheVariants as command
-use Rattle.order.specs.Refusal.{field_range}
-use Rattle.number.specs.declared.NumberRead.{NumberRead}
-use Rattle.number.specs.declared.NumberRead.TheVariants.{Number, Refused}
+use Rattle.order.specs.declared.Refusal.TheVariants as why
+use Rattle.std.specs.Prelude.{Result, Ok, Err}
+use Rattle.number.specs.declared.Refused.{Refused}
+use Rattle.number.proofs.AnswerLaws.{ok_pair}
 use Rattle.tape_format.specs.declared.Rule.{Rule}
 use Rattle.tape_format.specs.declared.Rule.TheVariants.{Unit, Address, Word, Block, Retried, From, To, Byte, Flag, Bct, Cycles}
 use Rattle.number.specs.Number.{number_at}
@@ -22,29 +23,29 @@ both_true false b e = absurd (false≢true e)
 
 -- what each way out of `field` finds
 module _ (rule : Rule) (tape : List ℕ) (at : ℕ) where
-  pub field_refused : {r : NumberRead} {n p : ℕ} → r ≡ number_at tape at → r ≡ Refused n p → r ≡ field_at rule tape at
+  pub field_refused : {r : Result (ℕ × ℕ) Refused} {e : Refused} → r ≡ number_at tape at → r ≡ Err e → r ≡ field_at rule tape at
   unfolding field_at ruled
   field_refused a b = rw (← a, b)
 
-  pub field_allowed : {r : NumberRead} {v q : ℕ} → r ≡ number_at tape at → r ≡ Number v q → allowed rule v ≡ true → Number v q ≡ field_at rule tape at
+  pub field_allowed : {r : Result (ℕ × ℕ) Refused} {v q : ℕ} → r ≡ number_at tape at → r ≡ Ok (v, q) → allowed rule v ≡ true → Ok (v, q) ≡ field_at rule tape at
   unfolding field_at ruled
   field_allowed a b h = rw (← a, b, h)
 
-  pub field_banned : {r : NumberRead} {v q : ℕ} → r ≡ number_at tape at → r ≡ Number v q → allowed rule v ≡ false → Refused field_range at ≡ field_at rule tape at
+  pub field_banned : {r : Result (ℕ × ℕ) Refused} {v q : ℕ} → r ≡ number_at tape at → r ≡ Ok (v, q) → allowed rule v ≡ false → Err (record { refusal = why.FieldRange; place = at }) ≡ field_at rule tape at
   unfolding field_at ruled
   field_banned a b h = rw (← a, b, h)
 
-ruled_number : (rule : Rule) (at : ℕ) (r : NumberRead) (v q : ℕ) → ruled rule at r ≡ Number v q → (r ≡ Number v q) × (allowed rule v ≡ true)
+ruled_number : (rule : Rule) (at : ℕ) (r : Result (ℕ × ℕ) Refused) (v q : ℕ) → ruled rule at r ≡ Ok (v, q) → (r ≡ Ok (v, q)) × (allowed rule v ≡ true)
 unfolding ruled
-ruled_number rule at (Number w p) v q e = go (allowed rule w) _ _ refl e
+ruled_number rule at (Ok (w, p)) v q e = go (allowed rule w) _ refl e
   where
-    go : (t : Bool) (n place : ℕ) → allowed rule w ≡ t → cond t (Number w p) (Refused n place) ≡ Number v q → (Number w p ≡ Number v q) × (allowed rule v ≡ true)
-    go true n place t e = (e, let z : w ≡ v = cc in rw (← z) t)
-    go false n place t e = absurd (let z : ◌≡◌ {A = ℕ} 0 1 = cc in omega arith)
-ruled_number rule at (Refused n p) v q e = absurd (let z : ◌≡◌ {A = ℕ} 0 1 = cc in omega arith)
+    go : (t : Bool) (r : Refused) → allowed rule w ≡ t → cond {A = Result (ℕ × ℕ) Refused} t (Ok (w, p)) (Err r) ≡ Ok (v, q) → (◌≡◌ {A = Result (ℕ × ℕ) Refused} (Ok (w, p)) (Ok (v, q))) × (allowed rule v ≡ true)
+    go true r t e = (e, rw (ok_pair e).0 at t)
+    go false r t e = absurd (let z : ◌≡◌ {A = ℕ} 0 1 = cc in omega arith)
+ruled_number rule at (Err r) v q e = absurd (let z : ◌≡◌ {A = ℕ} 0 1 = cc in omega arith)
 
 -- a field's number is one that its rule allows
-pub field_number : (rule : Rule) (tape : List ℕ) (at v q : ℕ) → field_at rule tape at ≡ Number v q → (number_at tape at ≡ Number v q) × (allowed rule v ≡ true)
+pub field_number : (rule : Rule) (tape : List ℕ) (at v q : ℕ) → field_at rule tape at ≡ Ok (v, q) → (number_at tape at ≡ Ok (v, q)) × (allowed rule v ≡ true)
 unfolding field_at
 field_number rule tape at v q e = ruled_number rule at (number_at tape at) v q e
 
@@ -99,5 +100,5 @@ allowed_64_bits Bct n h = omega (arith, allowed_most Bct n h)
 allowed_64_bits Cycles n h = allowed_most Cycles n h
 
 -- the number that code read is at most what the field's rule allows
-pub most : (rule : Rule) (tape : List ℕ) (at : ℕ) {f : NumberRead} {v q : ℕ} → f ≡ field_at rule tape at → f ≡ Number v q → v ≤ most_of rule
+pub most : (rule : Rule) (tape : List ℕ) (at : ℕ) {f : Result (ℕ × ℕ) Refused} {v q : ℕ} → f ≡ field_at rule tape at → f ≡ Ok (v, q) → v ≤ most_of rule
 most rule tape at {f} {v} {q} a b = allowed_most rule v (field_number rule tape at v q (sym a ∙ b)).1

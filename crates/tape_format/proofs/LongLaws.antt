@@ -4,20 +4,17 @@ use native.Mathlib.Omega.{arith}
 use mathlib.Core.Path.{◌≡◌, refl, sym}
 use mathlib.Core.Logic.{◌⊎◌, ⊎_elim}
 use mathlib.Core.List.{List, [], ◌∷◌, ◌++◌}
-use mathlib.Core.Option.{Option, none, some}
 use mathlib.Core.Bool.{Bool, true, false}
 use lib.ListN.{length}
 use borrow.Author.Tests.{ne_eqb}
 use Rattle.order.specs.declared.Command.{Command}
-use Rattle.order.specs.declared.CommandFound.{CommandFound}
-use Rattle.order.specs.declared.CommandFound.TheVariants.{Known, Unknown}
 use Rattle.order.specs.Command.{command_of}
+use Rattle.order.specs.declared.Refusal.TheVariants as why
+use Rattle.std.specs.Prelude.{Option, None, Some, Ok, Err}
 use Rattle.order.proofs.CommandLaws.{number_of_command, command_small}
-use Rattle.number.specs.declared.NumberRead.TheVariants.{Number}
 use Rattle.number.specs.Number.{number_at}
 use Rattle.number.proofs.NumberLaws.{number_moves}
 use Rattle.tape_format.specs.declared.Rule.{Rule}
-use Rattle.tape_format.specs.declared.RecordRead.TheVariants as out
 use Rattle.tape_format.specs.Field.{allowed}
 use Rattle.tape_format.specs.Record.{Layout, field, command, end, load, store, flush, order, answer, register, loaded, layout_of, fields_at, record_at, kind_of, fits}
 use Rattle.tape_format.specs.Refused.{Reads}
@@ -33,7 +30,7 @@ Narrow (field rule more) = (most_of rule ≤ 4294967295) × ((n : ℕ) → Narro
 Narrow (command more) = (c : Command) → Narrow (more c)
 Narrow (end r) = Unit {0}
 
-narrow : (k : ℕ) (l : Layout) → layout_of k ≡ some l → k ≤ 6 → Narrow l
+narrow : (k : ℕ) (l : Layout) → layout_of k ≡ Some l → k ≤ 6 → Narrow l
 unfolding load store flush order answer register loaded
 narrow =
     by_kind (λ k l. k ≤ 6 → Narrow l)
@@ -53,19 +50,19 @@ banned rule v m h = go (allowed rule v) refl
     go true e = absurd (omega (arith, allowed_most rule v e))
     go false e = refl
 
-no_such_command : (v : ℕ) → 4294967295 < v → command_of v ≡ Unknown
+no_such_command : (v : ℕ) → 4294967295 < v → command_of v ≡ None
 no_such_command v h = go (command_of v) refl
   where
-    go : (f : CommandFound) → command_of v ≡ f → f ≡ Unknown
-    go (Known c) e = absurd (let z = number_of_command v c e in omega (arith, command_small c))
-    go Unknown e = refl
+    go : (f : Option Command) → command_of v ≡ f → f ≡ None
+    go (Some c) e = absurd (let z = number_of_command v c e in omega (arith, command_small c))
+    go None e = refl
 
 -- the fields before are taken, and the long number is refused
-module _ (tape : List ℕ) (place v next : ℕ) (read : number_at tape place ≡ Number v next) (long : 4294967295 < v) (n : ℕ) (after : List ℕ) where
-  long_field : (l : Layout) (before : List ℕ) (at : ℕ) → Narrow l → fits l (before ++ n ∷ after) ≡ true → Reads tape at before place → out.Refused 8 place ≡ fields_at l tape at
+module _ (tape : List ℕ) (place v next : ℕ) (read : number_at tape place ≡ Ok (v, next)) (long : 4294967295 < v) (n : ℕ) (after : List ℕ) where
+  long_field : (l : Layout) (before : List ℕ) (at : ℕ) → Narrow l → fits l (before ++ n ∷ after) ≡ true → Reads tape at before place → Err (record { refusal = why.FieldRange; place = place }) ≡ fields_at l tape at
   unfolding fits
   long_field (field rule more) [] at w h s =
-      rw s (stop rule more tape place (field_banned rule tape place refl read (banned rule v w.0 long)) refl (λ number p e. (cc)))
+      rw s (stop rule more tape place (field_banned rule tape place refl read (banned rule v w.0 long)) refl)
   long_field (field rule more) (b ∷ bs) at w h s =
       let (a, g) = both_true (allowed rule b) _ h in
       let (p, m, r) = s in
@@ -78,12 +75,12 @@ module _ (tape : List ℕ) (place v next : ℕ) (read : number_at tape place ≡
   long_field (end x) [] at w h s = absurd (let z : ◌≡◌ {A = ℕ} 0 1 = cc in omega arith)
   long_field (end x) (b ∷ bs) at w h s = absurd (let z : ◌≡◌ {A = ℕ} 0 1 = cc in omega arith)
 
-no_such_kind : (v : ℕ) → (v ≡ 7) ⊎ (9 ≤ v) → layout_of v ≡ none
+no_such_kind : (v : ℕ) → (v ≡ 7) ⊎ (9 ≤ v) → layout_of v ≡ None
 no_such_kind v h = go (layout_of v) refl
   where
-    go : (o : Option Layout) → layout_of v ≡ o → o ≡ none
-    go none e = refl
-    go (some l) e = absurd (⊎_elim (λ x. ⊎_elim (λ y. omega arith) (λ y. omega arith) h) (λ x. ⊎_elim (λ y. omega arith) (λ y. omega arith) h) (in_table v l e))
+    go : (o : Option Layout) → layout_of v ≡ o → o ≡ None
+    go None e = refl
+    go (Some l) e = absurd (⊎_elim (λ x. ⊎_elim (λ y. omega arith) (λ y. omega arith) h) (λ x. ⊎_elim (λ y. omega arith) (λ y. omega arith) h) (in_table v l e))
 
 pub refuses_kinds : RefusesKinds
 unfolding RefusesKinds record_at

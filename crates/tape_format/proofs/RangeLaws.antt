@@ -4,7 +4,6 @@ use native.Mathlib.Omega.{arith}
 use mathlib.Core.Path.{◌≡◌, refl, sym}
 use mathlib.Core.Logic.{◌⊎◌, ◌≢◌, inl, inr, ⊎_elim}
 use mathlib.Core.List.{List}
-use mathlib.Core.Option.{Option-elim}
 use mathlib.Core.Bool.{Bool, true, false, not, false≢true}
 use lib.ListN.{length}
 use lib.Dec.{leb, eqb}
@@ -20,7 +19,7 @@ use Rattle.tape_format.specs.declared.Record.TheVariants as rec
 use Rattle.tape_format.specs.declared.Rule.TheVariants.{Unit, Address, Word, Block, Retried, From, To, Byte, Flag, Bct, Cycles}
 use Rattle.tape_format.specs.Field.{retried_most, allowed}
 use Rattle.tape_format.specs.Record.{load, store, flush, order, answer, register, loaded, stamp, layout_of, record_told, kind_of, fields_of, fits, fits_command}
-use Rattle.tape_format.specs.Write.{valid, bytes_of, written_of, written_refusal, written_count, space_after}
+use Rattle.tape_format.specs.Write.{valid, bytes_of, written_of, written_count, space_after}
 use Rattle.tape_format.specs.Ranges.{IsAddress, IsWord, IsCycles, Retries, Ends, InRange, Answers, WritesExactly, ReadsExactly, RangesHold}
 use Rattle.tape_format.proofs.FieldLaws.{both_true, allowed_most}
 use Rattle.tape_format.proofs.WriteLaws.{word, byte, flag_allowed}
@@ -79,7 +78,7 @@ retry MemoryWrite true h = refl
 -- ---- a record is valid if and only if it is in range
 
 pub in_range_lem : (r : Record) → valid r ≡ true → InRange r
-unfolding valid Option-elim layout_of kind_of fields_of fits fits_command load store flush order answer register loaded stamp InRange IsWord IsCycles Retries
+unfolding valid layout_of kind_of fields_of fits fits_command load store flush order answer register loaded stamp InRange IsWord IsCycles Retries
 in_range_lem (rec.Load u a) v =
     let (h, v) = both_true (allowed Unit u) _ v in
     let (k, v) = both_true (allowed Address a) _ v in
@@ -139,7 +138,7 @@ unfolding allowed
 cycles n h = le-leb n 18446744073709551615 h
 
 pub range_valid : (r : Record) → InRange r → valid r ≡ true
-unfolding valid Option-elim layout_of kind_of fields_of fits fits_command load store flush order answer register loaded stamp InRange IsWord IsCycles Retries
+unfolding valid layout_of kind_of fields_of fits fits_command load store flush order answer register loaded stamp InRange IsWord IsCycles Retries
 range_valid (rec.Load u a) h = rw (unit u h.0, address a h.1)
 range_valid (rec.Store u a x) h = rw (unit u h.0, address a h.1, word x h.2)
 range_valid (rec.Flush u b) h = rw (unit u h.0, block b h.1)
@@ -152,7 +151,7 @@ range_valid (rec.Stamp c) h = rw (cycles c h)
 -- ---- the laws
 
 writes_exactly : (r : Record) (space : List ℕ) → WritesExactly r space
-unfolding Answers written_of written_refusal written_count space_after filled
+unfolding Answers written_of written_count space_after filled
 writes_exactly r space =
     record {
       broken = λ h. go (valid r) refl h;

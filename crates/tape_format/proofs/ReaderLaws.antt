@@ -2,18 +2,18 @@
 use Prim.Native.Nat.{ℕ}
 use mathlib.Core.Path.{◌≡◌, refl}
 use mathlib.Core.List.{List}
+use Rattle.std.specs.Prelude.{Option, None, Some, Result, Ok, Err}
+use Rattle.number.specs.declared.Refused.{Refused}
 use Rattle.tape_format.specs.declared.Record.{Record}
-use Rattle.tape_format.specs.declared.RecordRead.{RecordRead}
-use Rattle.tape_format.specs.declared.RecordRead.TheVariants as read
 use Rattle.tape_format.specs.Record.{record_at}
 use Rattle.tape_format.specs.Reader.{place_after, Moves}
 use Rattle.tape_format.proofs.RoundTrip.{bytes_of_read}
 
-unmoved : (at : ℕ) (x : RecordRead) → ((r : Record) (next : ℕ) → x ≡ read.Record r next → ⊥) → place_after at x ≡ at
+unmoved : (at : ℕ) (x : Result (Option (Record × ℕ)) Refused) → ((r : Record) (next : ℕ) → x ≡ Ok (Some (r, next)) → ⊥) → place_after at x ≡ at
 unfolding place_after
-unmoved at (read.Record r next) h = absurd (h r next refl)
-unmoved at read.Finished h = refl
-unmoved at (read.Refused number place) h = refl
+unmoved at (Ok (Some (r, next))) h = absurd (h r next refl)
+unmoved at (Ok None) h = refl
+unmoved at (Err e) h = refl
 
 pub moves : (tape : List ℕ) (at : ℕ) → Moves tape at
 unfolding place_after

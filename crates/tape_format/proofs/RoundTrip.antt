@@ -9,10 +9,9 @@ use lib.ListN.{length, take, drop, length-append, take-append-drop}
 use lib.Seq.{take-append_seam, drop-length, drop-drop}
 use lib.Dec.{leb}
 use borrow.Author.Tests.{le-leb, lt-leb, eq-eqb}
-use Rattle.order.specs.Refusal.{field_range, no_room}
+use Rattle.order.specs.declared.Refusal.TheVariants as why
+use Rattle.std.specs.Prelude.{None, Some, Ok, Err}
 use Rattle.tape_format.specs.declared.Record.{Record}
-use Rattle.tape_format.specs.declared.RecordRead.TheVariants as read
-use Rattle.tape_format.specs.declared.Written.TheVariants as wrote
 use Rattle.number.specs.Number.{spell, spell_all, filled, Bytes}
 use Rattle.tape_format.specs.Record.{kind_of, fields_of, record_at}
 use Rattle.tape_format.specs.Refused.{Reads}
@@ -41,12 +40,12 @@ stands_of_reads (n ∷ ns) tape p q all w =
     (stands_join (spell n) (spell_all ns) tape p s (rw d at t), g ∙ simp (d, length-append) (omega arith))
 
 -- a valid record is read from its bytes, and a record that was read is valid and stands there as its bytes
-pub read_of_bytes : (r : Record) (before after : List ℕ) → valid r ≡ true → record_at (before ++ (bytes_of r ++ after)) (length before) ≡ read.Record r (length before + length (bytes_of r))
+pub read_of_bytes : (r : Record) (before after : List ℕ) → valid r ≡ true → record_at (before ++ (bytes_of r ++ after)) (length before) ≡ Ok (Some (r, length before + length (bytes_of r)))
 unfolding bytes_of
 read_of_bytes r before after v =
     record_given (before ++ (bytes_of r ++ after)) (length before) r (length before + length (bytes_of r)) (reads_of_stands (kind_of r ∷ fields_of r) _ _ (valid_small r v) (stands_in (bytes_of r) before after)) v
 
-pub bytes_of_read : (tape : List ℕ) (at : ℕ) (r : Record) (q : ℕ) → Bytes tape → record_at tape at ≡ read.Record r q
+pub bytes_of_read : (tape : List ℕ) (at : ℕ) (r : Record) (q : ℕ) → Bytes tape → record_at tape at ≡ Ok (Some (r, q))
     → (valid r ≡ true) × (q ≡ at + length (bytes_of r)) × (take (length (bytes_of r)) (drop at tape) ≡ bytes_of r)
 unfolding bytes_of
 bytes_of_read tape at r q all e =
@@ -55,11 +54,11 @@ bytes_of_read tape at r q all e =
     (v, d, stands_take (bytes_of r) tape at s)
 
 -- what writing answers and leaves where it accepts, and where it has no room
-pub wrote_bytes : (r : Record) (space : List ℕ) (n : ℕ) → written_of r (length space) ≡ wrote.Bytes n → (valid r ≡ true) × (n ≡ length (bytes_of r)) × (take n (space_after r space) ≡ bytes_of r)
+pub wrote_bytes : (r : Record) (space : List ℕ) (n : ℕ) → written_of r (length space) ≡ Ok n → (valid r ≡ true) × (n ≡ length (bytes_of r)) × (take n (space_after r space) ≡ bytes_of r)
 unfolding written_of space_after filled
 wrote_bytes r space n e = go (valid r) (leb (length (bytes_of r)) (length space)) refl refl e
   where
-    go : (t u : Bool) → valid r ≡ t → leb (length (bytes_of r)) (length space) ≡ u → cond t (cond u (wrote.Bytes (length (bytes_of r))) (wrote.Refused no_room)) (wrote.Refused field_range) ≡ wrote.Bytes n
+    go : (t u : Bool) → valid r ≡ t → leb (length (bytes_of r)) (length space) ≡ u → cond t (cond u (Ok (length (bytes_of r))) (Err why.NoRoom)) (Err why.FieldRange) ≡ Ok n
         → (valid r ≡ true) × (n ≡ length (bytes_of r)) × (take n (cond (valid r) (cond (leb (length (bytes_of r)) (length space)) (bytes_of r ++ drop (length (bytes_of r)) space) space) space) ≡ bytes_of r)
     go true true a b e =
         let z : n ≡ length (bytes_of r) = cc in
@@ -68,11 +67,11 @@ wrote_bytes r space n e = go (valid r) (leb (length (bytes_of r)) (length space)
     go false u a b e = absurd (let z : ◌≡◌ {A = ℕ} 0 1 = cc in omega arith)
 
 module _ (r : Record) (space : List ℕ) (v : valid r ≡ true) where
-  pub writes : length (bytes_of r) ≤ length space → (written_of r (length space) ≡ wrote.Bytes (length (bytes_of r))) × (take (length (bytes_of r)) (space_after r space) ≡ bytes_of r)
+  pub writes : length (bytes_of r) ≤ length space → (written_of r (length space) ≡ Ok (length (bytes_of r))) × (take (length (bytes_of r)) (space_after r space) ≡ bytes_of r)
   unfolding written_of space_after filled
   writes h = rw (v, le-leb (length (bytes_of r)) (length space) h) (refl, take-append_seam (bytes_of r) (drop (length (bytes_of r)) space))
 
-  pub no_room_lem : length space < length (bytes_of r) → written_of r (length space) ≡ wrote.Refused no_room
+  pub no_room_lem : length space < length (bytes_of r) → written_of r (length space) ≡ Err why.NoRoom
   unfolding written_of
   no_room_lem h = rw (v, lt-leb (length (bytes_of r)) (length space) h)
 
@@ -110,7 +109,7 @@ moves_on tape at next r e =
 
 -- ---- a whole tape
 
-at_end : (tape : List ℕ) (at : ℕ) → at ≡ length tape → record_at tape at ≡ read.Finished
+at_end : (tape : List ℕ) (at : ℕ) → at ≡ length tape → record_at tape at ≡ Ok None
 unfolding record_at
 at_end tape at e = rw (eq-eqb at (length tape) e)
 

@@ -6,11 +6,12 @@ use mathlib.Core.Bool.{Bool, true, false, cond}
 use mathlib.Core.List.{List, ◌∷◌}
 use lib.ListN.{length}
 use borrow.Author.Tests.{le-leb, lt-leb}
-use Rattle.order.specs.Refusal.{field_range}
+use Rattle.order.specs.declared.Refusal.{Refusal}
+use Rattle.order.specs.declared.Refusal.TheVariants as why
+use Rattle.std.specs.Prelude.{Ok, Err}
 use Rattle.number_writer.specs.GroupCount.{size_of}
 use Rattle.number_writer.proofs.CountLaws.{size_exact}
 use Rattle.tape_format.specs.declared.Record.{Record}
-use Rattle.tape_format.specs.declared.Written.TheVariants as wrote
 use Rattle.tape_format.specs.Record.{kind_of, fields_of}
 use Rattle.tape_format.specs.Write.{valid, bytes_of, written_of}
 use Rattle.tape_format.specs.Size.{record_size, size_told, Suffices, NeedsSize, RefusesAlike}
@@ -22,23 +23,23 @@ bytes_size r = size_exact (kind_of r ∷ fields_of r)
 -- ---- the answer, by what the test found
 
 module _ (r : Record) where
-  pub size_valid : (ns : List ℕ) (size : ℕ) → valid r ≡ true → ns ≡ kind_of r ∷ fields_of r → size ≡ size_of ns → wrote.Bytes size ≡ size_told r
+  pub size_valid : (ns : List ℕ) (size : ℕ) → valid r ≡ true → ns ≡ kind_of r ∷ fields_of r → size ≡ size_of ns → Ok size ≡ size_told r
   unfolding size_told record_size
   size_valid ns size v e s = rw (v, s, e)
 
-  pub size_invalid : valid r ≡ false → wrote.Refused field_range ≡ size_told r
+  pub size_invalid : valid r ≡ false → Err why.FieldRange ≡ size_told r
   unfolding size_told
   size_invalid v = rw v
 
 -- ---- what was answered is what writing does
 
-told_bytes : (t : Bool) (n size : ℕ) → cond t (wrote.Bytes n) (wrote.Refused field_range) ≡ wrote.Bytes size → (t ≡ true) × (n ≡ size)
+told_bytes : (t : Bool) (n size : ℕ) → cond t (Ok n) (Err why.FieldRange) ≡ Ok size → (t ≡ true) × (n ≡ size)
 told_bytes true n size e = (refl, cc)
 told_bytes false n size e = absurd (let z : ◌≡◌ {A = ℕ} 0 1 = cc in omega arith)
 
-told_refused : (t : Bool) (n number : ℕ) → cond t (wrote.Bytes n) (wrote.Refused field_range) ≡ wrote.Refused number → (t ≡ false) × (field_range ≡ number)
-told_refused true n number e = absurd (let z : ◌≡◌ {A = ℕ} 0 1 = cc in omega arith)
-told_refused false n number e = (refl, cc)
+told_refused : (t : Bool) (n : ℕ) (refusal : Refusal) → cond t (Ok n) (Err why.FieldRange) ≡ Err refusal → (t ≡ false) × (why.FieldRange ≡ refusal)
+told_refused true n refusal e = absurd (let z : ◌≡◌ {A = ℕ} 0 1 = cc in omega arith)
+told_refused false n refusal e = (refl, cc)
 
 pub suffices : Suffices
 unfolding Suffices size_told written_of
@@ -54,11 +55,11 @@ needs_size r size room e h =
 
 pub refuses_alike : RefusesAlike
 unfolding RefusesAlike size_told written_of
-refuses_alike r number room e =
-    let (v, s) = told_refused (valid r) (record_size r) number e in
-    rw (v) (ap wrote.Refused s)
+refuses_alike r refusal room e =
+    let (v, s) = told_refused (valid r) (record_size r) refusal e in
+    rw (v) (ap Err s)
 
--- with 8, and no other number
-pub refuses_8 : (r : Record) (number : ℕ) → size_told r ≡ wrote.Refused number → number ≡ 8
+-- for a field, and nothing else
+pub refuses_8 : (r : Record) (refusal : Refusal) → size_told r ≡ Err refusal → refusal ≡ why.FieldRange
 unfolding size_told
-refuses_8 r number e = sym (told_refused (valid r) (record_size r) number e).1
+refuses_8 r refusal e = sym (told_refused (valid r) (record_size r) refusal e).1

@@ -2,17 +2,16 @@
 use Prim.Native.Nat.{ℕ, ◌≤◌, ◌<◌}
 use mathlib.Core.Path.{◌≡◌, refl, ap}
 use mathlib.Core.List.{List, ◌∷◌}
-use mathlib.Core.Option.{Option-elim}
 use mathlib.Core.Bool.{Bool, true, false, ◌&&◌}
 use lib.ListN.{length}
 use borrow.Author.Tests.{le-leb, lt-leb}
 use Rattle.order.specs.declared.Order.{Order}
-use Rattle.order.specs.Refusal.{field_range, no_room}
+use Rattle.order.specs.declared.Refusal.TheVariants as why
+use Rattle.std.specs.Prelude.{Ok, Err}
 use Rattle.order.proofs.CommandLaws.{command_of_number}
 use Rattle.tape_format.specs.declared.Rule.TheVariants.{Unit, Address, Word, Block, Retried, From, To, Byte, Flag, Bct, Cycles}
 use Rattle.tape_format.specs.declared.Record.{Record}
 use Rattle.tape_format.specs.declared.Record.TheVariants as rec
-use Rattle.tape_format.specs.declared.Written.TheVariants as wrote
 use Rattle.number.specs.Number.{spell_all, filled}
 use Rattle.tape_format.specs.Field.{allowed}
 use Rattle.order.specs.Flag.{flag}
@@ -37,27 +36,27 @@ flag_allowed true = refl
 flag_allowed false = refl
 
 pub valid_load : (u a : ℕ) → allowed Unit u && allowed Address a ≡ valid (rec.Load u a)
-unfolding valid Option-elim layout_of kind_of fields_of fits load
+unfolding valid layout_of kind_of fields_of fits load
 valid_load u a = rw (and-true (allowed Address a))
 
 pub valid_store : (u a v : ℕ) → v ≤ 4294967295 → allowed Unit u && allowed Address a ≡ valid (rec.Store u a v)
-unfolding valid Option-elim layout_of kind_of fields_of fits store
+unfolding valid layout_of kind_of fields_of fits store
 valid_store u a v h = rw (word v h, and-true (allowed Address a))
 
 pub valid_flush : (u b : ℕ) → allowed Unit u && allowed Block b ≡ valid (rec.Flush u b)
-unfolding valid Option-elim layout_of kind_of fields_of fits flush
+unfolding valid layout_of kind_of fields_of fits flush
 valid_flush u b = rw (and-true (allowed Block b))
 
 pub valid_order : (o : Order) → allowed Unit o.unit && (allowed Block o.block && allowed (Retried o.command) (flag o.retried)) ≡ valid (rec.Order o)
-unfolding valid Option-elim layout_of kind_of fields_of fits fits_command order
+unfolding valid layout_of kind_of fields_of fits fits_command order
 valid_order o = rw (command_of_number o.command, and-true (allowed (Retried o.command) (flag o.retried)))
 
 pub valid_answer : (from to aid code : ℕ) → aid ≤ 255 → code ≤ 255 → allowed From from && allowed (To from) to ≡ valid (rec.Answer from to aid code)
-unfolding valid Option-elim layout_of kind_of fields_of fits answer
+unfolding valid layout_of kind_of fields_of fits answer
 valid_answer from to aid code h k = rw (byte aid h, byte code k, and-true (allowed (To from) to))
 
 pub valid_register : (from to aid : ℕ) (write : Bool) (ra bct : ℕ) → aid ≤ 255 → ra ≤ 4294967295 → allowed From from && allowed (To from) to && allowed Bct bct ≡ valid (rec.Register from to aid write ra bct)
-unfolding valid Option-elim layout_of kind_of fields_of fits register
+unfolding valid layout_of kind_of fields_of fits register
 valid_register from to aid write ra bct h k = rw (byte aid h, flag_allowed write, word ra k, and-true (allowed Bct bct)) (and_assoc (allowed From from) (allowed (To from) to) (allowed Bct bct))
   where
     and_assoc : (a b c : Bool) → a && b && c ≡ a && (b && c)
@@ -65,11 +64,11 @@ valid_register from to aid write ra bct h k = rw (byte aid h, flag_allowed write
     and_assoc false b c = refl
 
 pub valid_loaded : (u v : ℕ) → v ≤ 4294967295 → allowed Unit u ≡ valid (rec.Loaded u v)
-unfolding valid Option-elim layout_of kind_of fields_of fits loaded
+unfolding valid layout_of kind_of fields_of fits loaded
 valid_loaded u v h = rw (word v h, and-true (allowed Unit u))
 
 pub valid_stamp : (c : ℕ) → allowed Cycles c ≡ valid (rec.Stamp c)
-unfolding valid Option-elim layout_of kind_of fields_of fits stamp
+unfolding valid layout_of kind_of fields_of fits stamp
 valid_stamp c = rw (and-true (allowed Cycles c))
 
 -- the numbers that code spells are the record's
@@ -79,15 +78,15 @@ bytes_of_numbers r ns e = ap spell_all e
 
 -- the answer and the space, by what the tests found
 module _ (r : Record) (space : List ℕ) where
-  pub write_invalid : valid r ≡ false → (wrote.Refused field_range ≡ written_of r (length space)) × (space ≡ space_after r space)
+  pub write_invalid : valid r ≡ false → (Err why.FieldRange ≡ written_of r (length space)) × (space ≡ space_after r space)
   unfolding written_of space_after
   write_invalid e = rw e (refl, refl)
 
-  pub write_no_room : (size : ℕ) → valid r ≡ true → size ≡ length (bytes_of r) → length space < size → wrote.Refused no_room ≡ written_of r (length space)
+  pub write_no_room : (size : ℕ) → valid r ≡ true → size ≡ length (bytes_of r) → length space < size → Err why.NoRoom ≡ written_of r (length space)
   unfolding written_of
   write_no_room size e s h = rw (e, lt-leb (length (bytes_of r)) (length space) (rw s at h))
 
-  pub write_done : (size : ℕ) → valid r ≡ true → size ≡ length (bytes_of r) → size ≤ length space → wrote.Bytes size ≡ written_of r (length space)
+  pub write_done : (size : ℕ) → valid r ≡ true → size ≡ length (bytes_of r) → size ≤ length space → Ok size ≡ written_of r (length space)
   unfolding written_of
   write_done size e s h = rw (e, le-leb (length (bytes_of r)) (length space) (rw s at h), s)
 

@@ -1,13 +1,12 @@
 -- Records in their bytes, both ways: each kind with fields that differ from one another, so that none can stand for another; an order with each command, each
 -- flag as 0 and as 1. Then each field at its limit and one above it, and the other refusals, with their places.
-use Rattle.std.specs.Prelude.{ℕ, ◌≡◌, Bool, true, false, List, [], ◌∷◌, ◌++◌, map, length, replicate}
+use Rattle.std.specs.Prelude.{ℕ, ◌≡◌, Bool, true, false, Some, Ok, Err, List, [], ◌∷◌, ◌++◌, map, length, replicate}
 use Rattle.order.specs.declared.Command.{Command}
+use Rattle.order.specs.declared.Refusal.TheVariants as why
 use Rattle.order.specs.declared.Command.TheVariants.{Read, ModifiedRead, Invalidate, Copyback, MemoryWrite}
 use Rattle.number.specs.Number.{Told}
 use Rattle.tape_format.specs.declared.Record.{Record}
 use Rattle.tape_format.specs.declared.Record.TheVariants as rec
-use Rattle.tape_format.specs.declared.RecordRead.TheVariants as read
-use Rattle.tape_format.specs.declared.Written.TheVariants as wrote
 use Rattle.tape_format.specs.Record.{record_at, record_told}
 use Rattle.tape_format.specs.Write.{written_of, space_after}
 use Rattle.tape_format.specs.Size.{size_told}
@@ -15,9 +14,9 @@ use Rattle.tape_format.specs.Size.{size_told}
 -- the bytes are read as the record, the record takes so many, and it is written as the bytes
 unfoldable pub Spelled : List ℕ → Record → Type 0
 Spelled bytes r =
-    (record_at bytes 0 ≡ read.Record r (length bytes))
-    × (size_told r ≡ wrote.Bytes (length bytes))
-    × (written_of r (length bytes) ≡ wrote.Bytes (length bytes))
+    (record_at bytes 0 ≡ Ok (Some (r, length bytes)))
+    × (size_told r ≡ Ok (length bytes))
+    × (written_of r (length bytes) ≡ Ok (length bytes))
     × (space_after r (replicate (length bytes) 0) ≡ bytes)
 
 unfoldable pub ordered : ℕ → Command → ℕ → Bool → Record
@@ -129,4 +128,4 @@ pub record Examples : Type 0 where
   pub finished : record_told 2 (record_at (0x00 ∷ 0x00 ∷ []) 2) ≡ record { refusal = 0; place = 2; numbers = [] }
   pub told : told_of (0x01 ∷ 0x02 ∷ 0x48 ∷ 0xAC ∷ 0x02 ∷ []) ≡ record { refusal = 0; place = 5; numbers = 1 ∷ 2 ∷ 72 ∷ 300 ∷ [] }
   -- a unit of 4 and a retried copyback have no size
-  pub no_size : map size_told (rec.Load 4 0 ∷ ordered 0 Copyback 0 true ∷ []) ≡ replicate 2 (wrote.Refused 8)
+  pub no_size : map size_told (rec.Load 4 0 ∷ ordered 0 Copyback 0 true ∷ []) ≡ replicate 2 (Err why.FieldRange)

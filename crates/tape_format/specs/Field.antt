@@ -1,10 +1,9 @@
 -- The fields of a record (document 01, "The tape"; document 02, T-04): which numbers each may hold, and refusal 8 for any other.
-use Rattle.std.specs.Prelude.{ℕ, ◌%◌, List, Bool, cond, not, ◌&&◌, leb, eqb}
+use Rattle.std.specs.Prelude.{ℕ, ◌%◌, List, Bool, Result, Ok, Err, cond, not, ◌&&◌, leb, eqb}
 use Rattle.order.specs.declared.Command.{Command}
 use Rattle.order.specs.declared.Command.TheVariants as command
-use Rattle.order.specs.Refusal.{field_range}
-use Rattle.number.specs.declared.NumberRead.{NumberRead}
-use Rattle.number.specs.declared.NumberRead.TheVariants.{Number, Refused}
+use Rattle.order.specs.declared.Refusal.TheVariants as why
+use Rattle.number.specs.declared.Refused.{Refused}
 use Rattle.tape_format.specs.declared.Rule.{Rule}
 use Rattle.tape_format.specs.declared.Rule.TheVariants.{Unit, Address, Word, Block, Retried, From, To, Byte, Flag, Bct, Cycles}
 use Rattle.number.specs.Number.{number_at}
@@ -32,9 +31,9 @@ allowed Bct n = leb n 7
 allowed Cycles n = leb n 18446744073709551615
 
 -- a number that its rule does not allow is refusal 8, at its start; 5 and 6 come first
-unfoldable pub ruled : Rule → ℕ → NumberRead → NumberRead
-ruled rule at (Number v next) = cond (allowed rule v) (Number v next) (Refused field_range at)
-ruled rule at (Refused number place) = Refused number place
+unfoldable pub ruled : Rule → ℕ → Result (ℕ × ℕ) Refused → Result (ℕ × ℕ) Refused
+ruled rule at (Ok (v, next)) = cond (allowed rule v) (Ok (v, next)) (Err (record { refusal = why.FieldRange; place = at }))
+ruled rule at (Err e) = Err e
 
-unfoldable pub field_at : Rule → List ℕ → ℕ → NumberRead
+unfoldable pub field_at : Rule → List ℕ → ℕ → Result (ℕ × ℕ) Refused
 field_at rule tape at = ruled rule at (number_at tape at)

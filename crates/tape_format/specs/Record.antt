@@ -1,20 +1,16 @@
 -- Records on the tape (document 01, "The tape"; document 02, T-04): the table of kinds and their fields, and reading by it, number by number.
-use Rattle.std.specs.Prelude.{ℕ, List, [], ◌∷◌, Bool, true, false, cond, ◌&&◌, length, eqb}
-use Rattle.std.proofs.Math.Option.{Option, none, some, Option-elim}
+use Rattle.std.specs.Prelude.{ℕ, List, [], ◌∷◌, Bool, true, false, Option, None, Some, Result, Ok, Err, cond, ◌&&◌, length, eqb}
+use Rattle.std.specs.Option.{option_map_or}
 use Rattle.order.specs.declared.Command.{Command}
-use Rattle.order.specs.declared.CommandFound.{CommandFound}
-use Rattle.order.specs.declared.CommandFound.TheVariants.{Known, Unknown}
 use Rattle.order.specs.Command.{command_number, command_of}
 use Rattle.order.specs.Flag.{flag}
-use Rattle.order.specs.Refusal.{accepted, unknown_kind, field_range}
-use Rattle.number.specs.declared.NumberRead.{NumberRead}
-use Rattle.number.specs.declared.NumberRead.TheVariants.{Number, Refused}
+use Rattle.order.specs.declared.Refusal.TheVariants as why
+use Rattle.order.specs.Refusal.{accepted, refusal_number}
+use Rattle.number.specs.declared.Refused.{Refused}
 use Rattle.tape_format.specs.declared.Rule.{Rule}
 use Rattle.tape_format.specs.declared.Rule.TheVariants.{Unit, Address, Word, Block, Retried, From, To, Byte, Flag, Bct, Cycles}
 use Rattle.tape_format.specs.declared.Record.{Record}
 use Rattle.tape_format.specs.declared.Record.TheVariants as rec
-use Rattle.tape_format.specs.declared.RecordRead.{RecordRead}
-use Rattle.tape_format.specs.declared.RecordRead.TheVariants as out
 use Rattle.number.specs.Number.{number_at, Told}
 use Rattle.tape_format.specs.Field.{allowed, field_at}
 
@@ -57,38 +53,38 @@ stamp = field Cycles λ cycles. end (rec.Stamp cycles)
 -- the layout that a kind has; "7 for 7 and for 9 and above"
 unfoldable pub layout_of : ℕ → Option Layout
 layout_of kind =
-    cond (eqb kind 0) (some load)
-    (cond (eqb kind 1) (some store)
-    (cond (eqb kind 2) (some flush)
-    (cond (eqb kind 3) (some order)
-    (cond (eqb kind 4) (some answer)
-    (cond (eqb kind 5) (some register)
-    (cond (eqb kind 6) (some loaded)
-    (cond (eqb kind 8) (some stamp) none)))))))
+    cond (eqb kind 0) (Some load)
+    (cond (eqb kind 1) (Some store)
+    (cond (eqb kind 2) (Some flush)
+    (cond (eqb kind 3) (Some order)
+    (cond (eqb kind 4) (Some answer)
+    (cond (eqb kind 5) (Some register)
+    (cond (eqb kind 6) (Some loaded)
+    (cond (eqb kind 8) (Some stamp) None)))))))
 
 -- the next step with the number and the place after it, or the refusal: "the first bad number ends it"
-unfoldable pub and_then : NumberRead → (ℕ → ℕ → RecordRead) → RecordRead
-and_then (Number v next) step = step v next
-and_then (Refused number place) step = out.Refused number place
+unfoldable pub and_then : Result (ℕ × ℕ) Refused → (ℕ → ℕ → Result (Option (Record × ℕ)) Refused) → Result (Option (Record × ℕ)) Refused
+and_then (Ok (v, next)) step = step v next
+and_then (Err e) step = Err e
 
 -- a command's number that no command has is refusal 8, at its start
-unfoldable pub and_command : CommandFound → ℕ → (Command → RecordRead) → RecordRead
-and_command (Known given) at step = step given
-and_command Unknown at step = out.Refused field_range at
+unfoldable pub and_command : Option Command → ℕ → (Command → Result (Option (Record × ℕ)) Refused) → Result (Option (Record × ℕ)) Refused
+and_command (Some given) at step = step given
+and_command None at step = Err (record { refusal = why.FieldRange; place = at })
 
 -- the fields that start at a place, from left to right
-unfoldable pub fields_at : Layout → List ℕ → ℕ → RecordRead
+unfoldable pub fields_at : Layout → List ℕ → ℕ → Result (Option (Record × ℕ)) Refused
 fields_at (field rule more) tape at = and_then (field_at rule tape at) λ v next. fields_at (more v) tape next
 fields_at (command more) tape at = and_then (number_at tape at) λ v next. and_command (command_of v) at λ given. fields_at (more given) tape next
-fields_at (end r) tape at = out.Record r at
+fields_at (end r) tape at = Ok (Some (r, at))
 
 -- the record of a kind that stands at `start`, its fields at `at`; a kind that the table lacks is refusal 7, at its start
-unfoldable pub kind_at : List ℕ → ℕ → ℕ → ℕ → RecordRead
-kind_at tape start kind at = Option-elim (layout_of kind) (out.Refused unknown_kind start) λ layout. fields_at layout tape at
+unfoldable pub kind_at : List ℕ → ℕ → ℕ → ℕ → Result (Option (Record × ℕ)) Refused
+kind_at tape start kind at = option_map_or (λ layout. fields_at layout tape at) (layout_of kind) (Err (record { refusal = why.UnknownKind; place = start }))
 
 -- the record that starts at a place; "a place exactly at the end of the tape means finished and is no refusal"
-unfoldable pub record_at : List ℕ → ℕ → RecordRead
-record_at tape at = cond (eqb at (length tape)) out.Finished (and_then (number_at tape at) λ kind first. kind_at tape at kind first)
+unfoldable pub record_at : List ℕ → ℕ → Result (Option (Record × ℕ)) Refused
+record_at tape at = cond (eqb at (length tape)) (Ok None) (and_then (number_at tape at) λ kind first. kind_at tape at kind first)
 
 -- a record's kind, and its fields in the table's order
 unfoldable pub kind_of : Record → ℕ
@@ -112,15 +108,15 @@ fields_of (rec.Loaded unit value) = unit ∷ value ∷ []
 fields_of (rec.Stamp cycles) = cycles ∷ []
 
 -- reading at a place in document 01's numbers: a record's are its kind and fields; "finished" is no refusal, has no numbers, and stays at the place
-unfoldable pub record_told : ℕ → RecordRead → Told
-record_told at (out.Record r next) = record { refusal = accepted; place = next; numbers = kind_of r ∷ fields_of r }
-record_told at out.Finished = record { refusal = accepted; place = at; numbers = [] }
-record_told at (out.Refused number place) = record { refusal = number; place = place; numbers = [] }
+unfoldable pub record_told : ℕ → Result (Option (Record × ℕ)) Refused → Told
+record_told at (Ok (Some (r, next))) = record { refusal = accepted; place = next; numbers = kind_of r ∷ fields_of r }
+record_told at (Ok None) = record { refusal = accepted; place = at; numbers = [] }
+record_told at (Err e) = record { refusal = refusal_number e.refusal; place = e.place; numbers = [] }
 
 -- whether numbers stand in a layout's fields, one for each, and each as its rule allows
-unfoldable pub fits_command : CommandFound → (Command → Bool) → Bool
-fits_command (Known given) rest = rest given
-fits_command Unknown rest = false
+unfoldable pub fits_command : Option Command → (Command → Bool) → Bool
+fits_command (Some given) rest = rest given
+fits_command None rest = false
 
 unfoldable pub fits : Layout → List ℕ → Bool
 fits (field rule more) (n ∷ ns) = allowed rule n && fits (more n) ns

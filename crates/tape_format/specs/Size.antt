@@ -1,10 +1,9 @@
 -- How many bytes a record takes, which a caller asks before writing it (document 02, T-06), and that what is answered is what writing then does.
-use Rattle.std.specs.Prelude.{ℕ, ◌≤◌, ◌<◌, ◌≡◌, cond, ◌∷◌}
-use Rattle.order.specs.Refusal.{field_range, no_room}
+use Rattle.std.specs.Prelude.{ℕ, ◌≤◌, ◌<◌, ◌≡◌, Result, Ok, Err, cond, ◌∷◌}
+use Rattle.order.specs.declared.Refusal.{Refusal}
+use Rattle.order.specs.declared.Refusal.TheVariants as why
 use Rattle.number_writer.specs.GroupCount.{size_of}
 use Rattle.tape_format.specs.declared.Record.{Record}
-use Rattle.tape_format.specs.declared.Written.{Written}
-use Rattle.tape_format.specs.declared.Written.TheVariants as wrote
 use Rattle.tape_format.specs.Record.{kind_of, fields_of}
 use Rattle.tape_format.specs.Write.{valid, written_of}
 
@@ -13,17 +12,17 @@ unfoldable pub record_size : Record → ℕ
 record_size r = size_of (kind_of r ∷ fields_of r)
 
 -- the answer; a record that writing refuses for a field is refused alike
-unfoldable pub size_told : Record → Written
-size_told r = cond (valid r) (wrote.Bytes (record_size r)) (wrote.Refused field_range)
+unfoldable pub size_told : Record → Result ℕ Refusal
+size_told r = cond (valid r) (Ok (record_size r)) (Err why.FieldRange)
 
 -- a space of so many bytes is enough, and the record then has so many
 unfoldable pub Suffices : Type 0
-Suffices = (r : Record) (size room : ℕ) → size_told r ≡ wrote.Bytes size → size ≤ room → written_of r room ≡ wrote.Bytes size
+Suffices = (r : Record) (size room : ℕ) → size_told r ≡ Ok size → size ≤ room → written_of r room ≡ Ok size
 
 -- a smaller one is refused with 9
 unfoldable pub NeedsSize : Type 0
-NeedsSize = (r : Record) (size room : ℕ) → size_told r ≡ wrote.Bytes size → room < size → written_of r room ≡ wrote.Refused no_room
+NeedsSize = (r : Record) (size room : ℕ) → size_told r ≡ Ok size → room < size → written_of r room ≡ Err why.NoRoom
 
--- what is refused here is refused by writing, with the same number, whatever the space
+-- what is refused here is refused by writing alike, whatever the space
 unfoldable pub RefusesAlike : Type 0
-RefusesAlike = (r : Record) (number room : ℕ) → size_told r ≡ wrote.Refused number → written_of r room ≡ wrote.Refused number
+RefusesAlike = (r : Record) (refusal : Refusal) (room : ℕ) → size_told r ≡ Err refusal → written_of r room ≡ Err refusal

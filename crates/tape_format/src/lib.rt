@@ -1,10 +1,10 @@
-// What a tape's records are, and what reading and writing one answer. The format and its laws are in specs/, the theorems in proofs/.
+// What a tape's records are. The format, what reading and writing one answer, and its laws are in specs/, the theorems in proofs/.
 #![tactic(auto)]
 
 use order::{Command, Order};
 
 // The rule of a field. A `Retried` goes by the order's command, and a `To` by the record's `from`.
-#[derive(Clone, Copy)]
+#[derive(Clone, Copy, Debug, PartialEq, Eq)]
 pub enum Rule {
     Unit,
     Address,
@@ -19,7 +19,7 @@ pub enum Rule {
     Cycles,
 }
 
-#[derive(Clone, Copy)]
+#[derive(Clone, Copy, Debug, PartialEq, Eq)]
 pub enum Record {
     Load(u8, u32),
     Store(u8, u32, u32),
@@ -41,19 +41,4 @@ pub enum Record {
     },
     Loaded(u8, u32),
     Stamp(u64),
-}
-
-// A record with the place after it, the tape's end, or the number of the refusal with its place.
-#[derive(Clone, Copy)]
-pub enum RecordRead {
-    Record(Record, usize),
-    Finished,
-    Refused(u8, usize),
-}
-
-// How many bytes a record has, or the number of the refusal.
-#[derive(Clone, Copy)]
-pub enum Written {
-    Bytes(usize),
-    Refused(u8),
 }
