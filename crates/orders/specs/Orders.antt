@@ -10,7 +10,7 @@ use Rattle.coherence.specs.declared.Entry.{Entry}
 use Rattle.coherence.specs.declared.Settings.{Settings}
 use Rattle.coherence.specs.declared.Directory.{Directory}
 use Rattle.coherence.specs.declared.Orders.{Orders}
-use Rattle.coherence.specs.declared.Answer.{Answer}
+use Rattle.coherence.specs.declared.Accepted.{Accepted}
 
 -- an order by its parts
 unfoldable pub order : ℕ → Command → ℕ → Bool → Order
@@ -38,6 +38,6 @@ fetch_orders stolen u k b x v = eviction_orders u x ++ ask_orders stolen u k b v
 abbrev pub directory_of : List Entry → Settings → List ℕ → Directory
 directory_of l g h = record { slots = l; settings = g; holders = h }
 
--- an answer by its parts
-unfoldable pub answer_of : ℕ → ℕ → Orders → Directory → Answer
-answer_of r v o d = record { refusal = r; value = v; orders = o; directory = d }
+-- an accepted call's answer by its parts
+unfoldable pub accepted_answer : ℕ → Orders → Directory → Accepted
+accepted_answer v o d = record { value = v; orders = o; directory = d }

@@ -1,159 +1,102 @@
-// The orders that an access gives, as an answer has them, and the answer itself.
+// The orders that an access gives, as an answer has them, and the answer of an accepted call.
 #![tactic(auto)]
 
-ghost use Rattle.std.specs.Prelude.{◌≡◌, false, [], ◌∷◌};
+ghost use Rattle.std.specs.Prelude.{◌≡◌, ◌<◌, false, List, [], ◌∷◌};
 ghost use Rattle.coherence.specs.Calls.{no_order, packed};
-ghost use Rattle.order.specs.declared.Command.TheVariants.{Copyback};
-ghost use Rattle.orders.specs.Orders.{order, eviction_orders, ask_orders, fetch_orders, directory_of, answer_of};
+ghost use Rattle.orders.specs.Orders.{order, eviction_orders, again, ask_orders, fetch_orders, directory_of, accepted_answer};
 
-use coherence::{Answer, Directory, Entry, Orders, Settings, Slot};
+use coherence::{Accepted, Directory, Entry, Orders, Settings, Slot};
 use order::{Command, Order};
 
 // What stands in a place of an answer's list that no order has.
+#[tactic(auto, unfolding(crate::specs::Orders::order))]
 fn no_order() -> Order
     ensures { result ≡ no_order }
 {
+    given(0, Command::Read, 0, false)
+}
+
+#[tactic(auto, unfolding(crate::specs::Orders::order))]
+fn given(unit: u8, command: Command, block: u8, retried: bool) -> Order
+    ensures { result ≡ order unit command block retried }
+{
     Order {
-        unit: 0,
-        command: Command::Read,
-        block: 0,
-        retried: false,
-    }
-}
-
-pub fn no_orders() -> Orders
-    ensures { result ≡ packed [] }
-{
-    let none = no_order();
-    Orders {
-        count: 0,
-        list: [none, none, none, none],
-    }
-}
-
-pub fn one_order(unit: u8, command: Command, block: u8) -> Orders
-    ensures { result ≡ packed (order unit command block false ∷ []) }
-{
-    let none = no_order();
-    let given = Order {
         unit,
         command,
         block,
-        retried: false,
-    };
-    Orders {
-        count: 1,
-        list: [given, none, none, none],
+        retried,
     }
 }
 
+#[tactic(auto, unfolding(coherence::specs::Calls::packed))]
+pub fn no_orders() -> Orders
+    ensures { result ≡ packed [] }
+{
+    Orders {
+        count: 0,
+        list: [no_order(); 4],
+    }
+}
+
+// The orders, at most three, behind one that comes first.
+fn led_by(first: Order, orders: Orders) -> Orders
+    requires { orders.count < 4 }
+    ensures { (os : List Order) → orders ≡ packed os → result ≡ packed (first ∷ os) }
+{
+    let [second, third, fourth, _] = orders.list;
+    Orders {
+        count: orders.count + 1,
+        list: [first, second, third, fourth],
+    }
+}
+
+#[tactic(auto, unfolding(coherence::specs::Calls::packed))]
+pub fn one_order(unit: u8, command: Command, block: u8) -> Orders
+    ensures { result ≡ packed (order unit command block false ∷ []) }
+{
+    led_by(given(unit, command, block, false), no_orders())
+}
+
 // The orders by which a unit's slot is emptied: a copyback where it is EM.
+#[tactic(auto, unfolding(crate::specs::Orders::eviction_orders))]
 pub fn eviction_orders(slot: Slot, unit: u8) -> Orders
     ensures { result ≡ packed (eviction_orders unit slot) }
 {
     match slot {
-        Slot::Invalid => no_orders(),
-        Slot::Shared(_) => no_orders(),
         Slot::Modified(old) => one_order(unit, Command::Copyback, old),
+        _ => no_orders(),
     }
 }
 
-// The orders by which a unit asks for a block. Where `holder` is a unit, the order is retried, the holder copies the block back, and the order is given
-// again, but where the block is `stolen` during the copyback.
-pub fn ask_orders(stolen: bool, holder: u8, unit: u8, command: Command, block: u8) -> Orders
-    ensures { result ≡ packed (ask_orders stolen unit command block holder) }
+// After a retry the same order again, but where the block is stolen.
+#[tactic(auto, unfolding(crate::specs::Orders::again))]
+fn again(stolen: bool, unit: u8, command: Command, block: u8) -> Orders
+    ensures { result ≡ packed (again stolen unit command block) }
 {
-    if holder < 4 {
-        let none = no_order();
-        let retried = Order {
-            unit,
-            command,
-            block,
-            retried: true,
-        };
-        let yielded = Order {
-            unit: holder,
-            command: Command::Copyback,
-            block,
-            retried: false,
-        };
-        let given = Order {
-            unit,
-            command,
-            block,
-            retried: false,
-        };
-        if stolen {
-            return Orders {
-                count: 2,
-                list: [retried, yielded, none, none],
-            };
-        }
-        Orders {
-            count: 3,
-            list: [retried, yielded, given, none],
-        }
+    if stolen {
+        no_orders()
     } else {
         one_order(unit, command, block)
     }
 }
 
-// The same after the copyback of the block `old`, which the unit's slot has EM.
-fn evict_and_ask_orders(
-    stolen: bool,
-    old: u8,
-    holder: u8,
-    unit: u8,
-    command: Command,
-    block: u8,
-) -> Orders
-    ensures { result ≡ packed (order unit Copyback old false ∷ ask_orders stolen unit command block holder) }
+// The orders by which a unit asks for a block. Where `holder` is a unit, the order is retried, the holder copies the block back, and the order is given
+// again, but where the block is `stolen` during the copyback.
+#[tactic(auto, unfolding(crate::specs::Orders::ask_orders), using(crate::proofs::Leading::few_again))]
+pub fn ask_orders(stolen: bool, holder: u8, unit: u8, command: Command, block: u8) -> Orders
+    ensures { result ≡ packed (ask_orders stolen unit command block holder) }
 {
-    let none = no_order();
-    let evicted = Order {
-        unit,
-        command: Command::Copyback,
-        block: old,
-        retried: false,
-    };
-    let given = Order {
-        unit,
-        command,
-        block,
-        retried: false,
-    };
-    if holder < 4 {
-        let retried = Order {
-            unit,
-            command,
-            block,
-            retried: true,
-        };
-        let yielded = Order {
-            unit: holder,
-            command: Command::Copyback,
-            block,
-            retried: false,
-        };
-        if stolen {
-            return Orders {
-                count: 3,
-                list: [evicted, retried, yielded, none],
-            };
-        }
-        Orders {
-            count: 4,
-            list: [evicted, retried, yielded, given],
-        }
-    } else {
-        Orders {
-            count: 2,
-            list: [evicted, given, none, none],
-        }
+    if holder > 3 {
+        return one_order(unit, command, block);
     }
+    let retried = given(unit, command, block, true);
+    let yielded = given(holder, Command::Copyback, block, false);
+    let answered = led_by(yielded, again(stolen, unit, command, block));
+    led_by(retried, answered)
 }
 
 // The orders by which a unit gets a block that it does not hold, into a slot that is as given.
+#[tactic(auto, unfolding(crate::specs::Orders::fetch_orders, crate::specs::Orders::eviction_orders), using(crate::proofs::Leading::few_asked))]
 pub fn fetch_orders(
     stolen: bool,
     slot: Slot,
@@ -164,45 +107,31 @@ pub fn fetch_orders(
 ) -> Orders
     ensures { result ≡ packed (fetch_orders stolen unit command block slot holder) }
 {
+    let asked = ask_orders(stolen, holder, unit, command, block);
     match slot {
-        Slot::Invalid => ask_orders(stolen, holder, unit, command, block),
-        Slot::Shared(_) => ask_orders(stolen, holder, unit, command, block),
-        Slot::Modified(old) => evict_and_ask_orders(stolen, old, holder, unit, command, block),
+        Slot::Modified(old) => led_by(given(unit, Command::Copyback, old, false), asked),
+        _ => asked,
     }
 }
 
 // The answer of an accepted call, which leaves these slots and these sets of holders, and keeps the settings.
+#[tactic(auto, unfolding(crate::specs::Orders::accepted_answer))]
 pub fn accepted(
     value: u32,
     orders: Orders,
     slots: [Entry; 64],
     settings: Settings,
     holders: [u8; 64],
-) -> Answer
-    ensures { result ≡ answer_of 0 value orders (directory_of slots settings holders) }
+) -> Accepted
+    ensures { result ≡ accepted_answer value orders (directory_of slots settings holders) }
 {
-    let directory = Directory {
-        slots,
-        settings,
-        holders,
-    };
-    Answer {
-        refusal: 0,
+    Accepted {
         value,
         orders,
-        directory,
-    }
-}
-
-// The answer of a refused call: its number, value 0, no orders, and the directory as it was.
-pub fn refused(refusal: u8, directory: Directory) -> Answer
-    ensures { result ≡ answer_of refusal 0 (packed []) directory }
-{
-    let orders = no_orders();
-    Answer {
-        refusal,
-        value: 0,
-        orders,
-        directory,
+        directory: Directory {
+            slots,
+            settings,
+            holders,
+        },
     }
 }

@@ -1,16 +1,16 @@
-use borrow.Author.Tests.{lt-ltb, le-ltb}
-use Rattle.orders.specs.Orders.{order, again, ask_orders}
-use Rattle.coherence.specs.Calls.{packed}
+use native.Mathlib.Omega.{arith}
+use Prim.Native.Nat.{◌<◌}
+use borrow.Author.Tests.{lt-ltb}
+use Rattle.orders.specs.Orders.{ask_orders}
+use Rattle.orders.proofs.Leading.{few_answered}
 use Rattle.orders.proofs.ask_orders.Goals as goal
 
-pub returns-then-stolen : goal.returns-then-stolen
-unfolding packed ask_orders again order
-returns-then-stolen c = rw (lt-ltb _ _ c.if-holder-lt4.true, c.if-stolen.true, c.no_order-none.ensures)
+pub led_by-requires : goal.led_by-requires
+led_by-requires c = omega (arith, few_answered _ _ _ _ _ _ (c.led_by-answered.ensures _ c.again.ensures))
 
-pub returns-else-stolen : goal.returns-else-stolen
-unfolding packed ask_orders again order
-returns-else-stolen c = rw (lt-ltb _ _ c.if-holder-lt4.true, c.if-stolen.false, c.no_order-none.ensures)
-
-pub returns-else-holder-lt4 : goal.returns-else-holder-lt4
-unfolding ask_orders order
-returns-else-holder-lt4 c = rw (le-ltb _ _ c.if-holder-lt4.false) c.one_order.ensures
+pub returns : goal.returns
+unfolding ask_orders
+returns c =
+    let h : c.args.holder < 4 = omega (arith, c.if-holder-gt3.false) in
+    let e = c.led_by.ensures _ (c.led_by-answered.ensures _ c.again.ensures) in
+    rw (lt-ltb _ _ h) (rw (c.given-retried.ensures, c.given-yielded.ensures) at e)
