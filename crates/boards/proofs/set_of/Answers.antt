@@ -1,7 +1,18 @@
-use mathlib.Core.Path.{refl}
-use Rattle.boards.specs.Boards.{set_of}
+use mathlib.Core.Path.{ap, ◌∙◌}
+use native.Mathlib.Omega.{arith}
+use Rattle.std.specs.Int.{from_bool}
+use Rattle.boards.proofs.BoardLaws.{bits_next, bits_fit, bits_all}
 use Rattle.boards.proofs.set_of.Goals as goal
 
+pub overflow_add-set : goal.overflow_add-set
+overflow_add-set c =
+    let l = c.loop-unit in
+    omega (arith, bits_fit c.args.settings l.unit _ c.loop-unit-test.true (bits_next _ l.unit l.set _ c.loop-unit-test.true (c.from.ensures ∙ ap from_bool c.is_through.ensures) l.invariant))
+
+pub loop-unit-preserved : goal.loop-unit-preserved
+loop-unit-preserved c =
+    let l = c.loop-unit in
+    bits_next _ l.unit l.set _ c.loop-unit-test.true (c.from.ensures ∙ ap from_bool c.is_through.ensures) l.invariant
+
 pub returns : goal.returns
-unfolding set_of
-returns c = rw (c.weight-w0.ensures.0, c.weight-w1.ensures.0, c.weight-w2.ensures.0, c.weight-w3.ensures.0, c.is_through.ensures, c.is_through-2.ensures, c.is_through-3.ensures, c.is_through-4.ensures) refl
+returns c = c.loop-unit.invariant ∙ bits_all _ c.loop-unit.unit c.loop-unit.auto.unit-end c.loop-unit-test.false
