@@ -1,5 +1,5 @@
 // Address cycles that are read: what is accepted, each refusal, and the order of the refusals.
-use crate::print::{number, reading, word};
+use crate::print::reading;
 use jbus::AddressCycle;
 use std::io;
 
@@ -53,54 +53,26 @@ const READINGS: [[u64; 2]; 35] = [
     [0, 0],
 ];
 
-fn row(to: &impl Print, values: [u64; 2]) -> io::Result<()> {
-    reading(
-        to,
-        AddressCycle {
-            upper: values[0],
-            lower: values[0] ^ values[1],
-        },
-    )
-}
-
 pub(crate) fn run_readings(to: &impl Print) -> io::Result<()> {
-    for k in 0..35 {
-        row(to, READINGS[k])?;
+    for [upper, differing] in READINGS {
+        let lower = upper ^ differing;
+        reading(to, AddressCycle { upper, lower })?;
     }
     Ok(())
 }
 
 // The example with a bit the other way: in both halves, in the upper one, and in the lower one.
-fn bit(to: &impl Print, k: u32, weight: u64) -> io::Result<()> {
-    number(to, b"bit ", k as u64)?;
-    word(to, b"\n")?;
-    let other = EXAMPLE ^ weight;
-    reading(
-        to,
-        AddressCycle {
-            upper: other,
-            lower: other,
-        },
-    )?;
-    reading(
-        to,
-        AddressCycle {
-            upper: other,
-            lower: EXAMPLE,
-        },
-    )?;
-    reading(
-        to,
-        AddressCycle {
-            upper: EXAMPLE,
-            lower: other,
-        },
-    )
+fn bit(to: &impl Print, other: u64) -> io::Result<()> {
+    for [upper, lower] in [[other, other], [other, EXAMPLE], [EXAMPLE, other]] {
+        reading(to, AddressCycle { upper, lower })?;
+    }
+    Ok(())
 }
 
 pub(crate) fn run_bits(to: &impl Print) -> io::Result<()> {
-    for k in 0..64 {
-        bit(to, k, 1 << k)?;
+    for k in 0..64u32 {
+        println!(to; "bit {k}")?;
+        bit(to, EXAMPLE ^ (1 << k))?;
     }
     Ok(())
 }

@@ -1,8 +1,6 @@
 // Address cycles that are written, and read again.
-ghost use Rattle.std.specs.Prelude.{◌≤◌};
-
-use crate::print::{halves, number, reading, word};
-use jbus::{CycleWritten, InterruptRead};
+use crate::print::reading;
+use jbus::AddressCycle;
 use std::io;
 
 // The target and the agent.
@@ -33,30 +31,20 @@ const WRITINGS: [[u32; 2]; 21] = [
 ];
 
 fn writing(to: &impl Print, target: u32, agent: u32) -> io::Result<()> {
-    number(to, b"write ", target as u64)?;
-    number(to, b" ", agent as u64)?;
-    word(to, b":")?;
-    let answer = jbus::write_interrupt(target, agent);
-    match answer {
-        CycleWritten::Cycle(cycle) => {
-            halves(to, cycle)?;
-            word(to, b"\n")?;
+    print!(to; "write {target} {agent}: ")?;
+    match jbus::write_interrupt(target, agent) {
+        Ok(cycle) => {
+            let AddressCycle { upper, lower } = cycle;
+            println!(to; "{upper:016x} {lower:016x}")?;
             reading(to, cycle)
         }
-        CycleWritten::Refused(n) => {
-            number(to, b" refusal ", n as u64)?;
-            word(to, b"\n")
-        }
+        Err(refusal) => println!(to; "refusal {}", refusal as u32),
     }
 }
 
-fn row(to: &impl Print, values: [u32; 2]) -> io::Result<()> {
-    writing(to, values[0], values[1])
-}
-
 pub(crate) fn run_writings(to: &impl Print) -> io::Result<()> {
-    for k in 0..21 {
-        row(to, WRITINGS[k])?;
+    for [target, agent] in WRITINGS {
+        writing(to, target, agent)?;
     }
     Ok(())
 }
@@ -69,29 +57,15 @@ pub(crate) fn run_agents(to: &impl Print) -> io::Result<()> {
     Ok(())
 }
 
-// 1 where a pair is written and read as the same pair, else 0.
-fn comes_back(target: u32, agent: u32) -> u32
-    ensures { result ≤ 1 }
-{
-    let CycleWritten::Cycle(cycle) = jbus::write_interrupt(target, agent) else {
-        return 0;
-    };
-    let InterruptRead::Interrupt(i) = jbus::read_interrupt(cycle) else {
-        return 0;
-    };
-    if (i.target == target) & (i.agent == agent) {
-        1
-    } else {
-        0
-    }
+// A pair is written, and read as the same pair.
+fn comes_back(target: u32, agent: u32) -> bool {
+    jbus::write_interrupt(target, agent)
+        .and_then(|cycle| jbus::read_interrupt(cycle))
+        .is_ok_and(|i| i.target == target && i.agent == agent)
 }
 
 // Every target with every agent.
 pub(crate) fn run_pairs(to: &impl Print) -> io::Result<()> {
-    let mut n = 0;
-    for k in 0..1024 {
-        n = n + comes_back(k / 32, k % 32);
-    }
-    number(to, b"pairs that come back ", n as u64)?;
-    word(to, b"\n")
+    let n = (0..1024).filter(|&k| comes_back(k / 32, k % 32)).count();
+    println!(to; "pairs that come back {n}")
 }
