@@ -1,15 +1,14 @@
 -- What the test of refusal 10 says of an accepted state and of its request sets.
 use Prim.Native.Nat.{ℕ, ◌≤◌}
-use mathlib.Core.Path.{◌≡◌, refl}
+use mathlib.Core.Path.{◌≡◌, refl, sym, ap, ◌∙◌}
 use mathlib.Core.Bool.{Bool, true, false, ◌&&◌, and-eq-true_iff}
 use borrow.Author.Tests.{leb-true, le-leb}
 use lib.Dec.{leb}
 use Rattle.handler.specs.declared.Class.{Class}
 use Rattle.handler.specs.declared.Class.TheVariants.{High, Low}
-use Rattle.handler.specs.declared.Lock.{Lock}
-use Rattle.handler.specs.declared.Lock.TheVariants.{Free, Owner}
 use Rattle.handler.specs.declared.State.{State}
 use Rattle.handler.specs.Handler.{last_unit, requests, lock_next, locked, moved, lock_allowed, state_allowed, sets_allowed, allowed}
+use Rattle.std.specs.Prelude.{Option, None, Some}
 
 -- both tests of a conjunction hold
 both : (a b : Bool) → a && b ≡ true → (a ≡ true) × (b ≡ true)
@@ -29,20 +28,33 @@ module _ (s : State) (ok : state_allowed s ≡ true) where
   unfolding state_allowed
   lock_allowed_lem = (both (leb s.last_high 7 && leb s.last_low 7) (lock_allowed s.lock) ok).1
 
-pub owner_allowed : (u : ℕ) → lock_allowed (Owner u) ≡ true → u ≤ 7
+pub owner_allowed : (u : ℕ) → lock_allowed (Some u) ≡ true → u ≤ 7
 unfolding lock_allowed
 owner_allowed u e = leb-true u 7 e
+
+-- what the code needs of an accepted state
+
+pub last_high_allowed : (s : State) → state_allowed s ≡ true → s.last_high ≤ 7
+unfolding last_unit
+last_high_allowed s ok = last_allowed s ok High
+
+pub last_low_allowed : (s : State) → state_allowed s ≡ true → s.last_low ≤ 7
+unfolding last_unit
+last_low_allowed s ok = last_allowed s ok Low
+
+pub held_allowed : (s : State) (u : ℕ) → state_allowed s ≡ true → s.lock ≡ Some u → u ≤ 7
+held_allowed s u ok e = owner_allowed u (ap lock_allowed (sym e) ∙ lock_allowed_lem s ok)
 
 -- the parts make an accepted state
 pub state_allowed_lem : (s : State) → ((c : Class) → last_unit c s ≤ 7) → lock_allowed s.lock ≡ true → state_allowed s ≡ true
 unfolding state_allowed last_unit
 state_allowed_lem s l k = rw (le-leb s.last_high 7 (l High), le-leb s.last_low 7 (l Low)) k
 
-pub lock_next_allowed : (lck : Bool) (lock : Lock) (last : ℕ) → last ≤ 7 → lock_allowed lock ≡ true → lock_allowed (lock_next lck lock last) ≡ true
+pub lock_next_allowed : (lck : Bool) (lock : Option ℕ) (last : ℕ) → last ≤ 7 → lock_allowed lock ≡ true → lock_allowed (lock_next lck lock last) ≡ true
 unfolding lock_next lock_allowed
 lock_next_allowed false lock last l k = refl
-lock_next_allowed true Free last l k = le-leb last 7 l
-lock_next_allowed true (Owner u) last l k = k
+lock_next_allowed true None last l k = le-leb last 7 l
+lock_next_allowed true (Some u) last l k = k
 
 -- the lock's step and a grant to one of the eight units keep a state accepted
 
@@ -84,6 +96,17 @@ module _ (s : State) (high low : ℕ) (ok : allowed s high low ≡ true) where
   pub call_state_allowed : state_allowed s ≡ true
   unfolding allowed
   call_state_allowed = (both (sets_allowed high low) (state_allowed s) ok).1
+
+  pub high_set_allowed : high ≤ 255
+  unfolding requests
+  high_set_allowed = requests_allowed High
+
+  pub low_set_allowed : low ≤ 255
+  unfolding requests
+  low_set_allowed = requests_allowed Low
+
+  pub locked_call_allowed : (lck : Bool) → state_allowed (locked lck s) ≡ true
+  locked_call_allowed lck = locked_allowed lck s call_state_allowed
 
 -- the request sets and the state make an accepted call
 pub call_allowed : (s : State) (high low : ℕ) → ((c : Class) → requests c high low ≤ 255) → state_allowed s ≡ true → allowed s high low ≡ true

@@ -9,3 +9,4 @@ pub mod WaitingCall
 pub mod WaitingLaws
 pub mod WaitingExamples
 pub mod RuleLaws
+pub mod ToldLaws

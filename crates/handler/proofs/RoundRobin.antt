@@ -8,8 +8,10 @@ use native.Mathlib.Decide.{dec_lt}
 use native.Mathlib.Numerals.{add-one}
 use native.Mathlib.Omega.{arith}
 use lib.Pow.{shr-shr}
-use borrow.Author.Tests.{eqb-true, eqb-false}
-use Rattle.handler.specs.Handler.{met, distance, passed, first_met}
+use borrow.Author.Tests.{eq-eqb, ne_eqb, eqb-true, eqb-false}
+use lib.Dec.{eqb}
+use Rattle.std.specs.Prelude.{None, Some}
+use Rattle.handler.specs.Handler.{met, distance, passed, first_met, turn}
 use Rattle.numeric.specs.Bits.{bit_at, contains}
 
 -- the k-th unit met is at distance k, and a unit is met at its distance
@@ -103,18 +105,22 @@ passed_nearest set last v hl hv e = on (dec_lt (distance last v) (passed 8 set l
     on (yes l) =
         absurd (false≢true (sym (passed_others 8 set last 0 (distance last v) (omega arith) l) ∙ ap (contains set) (met_distance last v hl hv) ∙ e))
 
+-- a set of which all eight units are passed is empty
+passed_all : (set last : ℕ) → set ≤ 255 → last ≤ 7 → (passed 8 set last 0 < 8 → ⊥) → set ≡ 0
+passed_all set last hs hl n = without_units set hs none
+  where
+    none : (u : ℕ) → u ≤ 7 → contains set u ≡ false
+    none u hu =
+        sym (ap (contains set) (met_distance last u hl hu)) ∙ passed_others 8 set last 0 (distance last u) (omega arith) (omega (arith, distance_small last u))
+
 -- the first member met of a set that isn't empty is a member
 pub first_met_member : (set last : ℕ) → set ≤ 255 → last ≤ 7 → (set ≡ 0 → ⊥) → contains set (first_met set last) ≡ true
 unfolding first_met
 first_met_member set last hs hl ne = on (dec_lt (passed 8 set last 0) 8)
   where
-    none : (passed 8 set last 0 < 8 → ⊥) → (u : ℕ) → u ≤ 7 → contains set u ≡ false
-    none n u hu =
-        sym (ap (contains set) (met_distance last u hl hu)) ∙ passed_others 8 set last 0 (distance last u) (omega arith) (omega (arith, distance_small last u))
-
     on : Dec (passed 8 set last 0 < 8) → contains set (met last (passed 8 set last 0)) ≡ true
     on (yes l) = passed_member 8 set last 0 (omega arith)
-    on (no n) = absurd (ne (without_units set hs (none n)))
+    on (no n) = absurd (ne (passed_all set last hs hl n))
 
 -- no member is nearer than the first member met
 pub first_met_nearest : (set last v : ℕ) → last ≤ 7 → v ≤ 7 → contains set v ≡ true → distance last (first_met set last) ≤ distance last v
@@ -128,3 +134,19 @@ first_met_nearest set last v hl hv e =
 pub first_met_unit : (set last : ℕ) → first_met set last ≤ 7
 unfolding first_met
 first_met_unit set last = met_unit last (passed 8 set last 0)
+
+-- the search that stands at unit k, in a set that has it and in one that it has passed
+
+pub turn_here : (set last k : ℕ) → k < 8 → contains set (met last k) ≡ true → passed (8 - k) set last k ≡ passed 8 set last 0
+    → turn set last ≡ Some (met last k)
+unfolding turn first_met
+turn_here set last k h m e =
+    let n : eqb set 0 ≡ false = ne_eqb set 0 (with_member set (met last k) m) in
+    let q : passed 8 set last 0 ≡ k = sym e ∙ passed_here set last k h m in
+    rw (n, q)
+
+pub turn_none : (set last k : ℕ) → set ≤ 255 → last ≤ 7 → 8 ≤ k → passed (8 - k) set last k ≡ passed 8 set last 0 → turn set last ≡ None
+unfolding turn
+turn_none set last k hs hl h e =
+    let q : passed 8 set last 0 ≡ k = sym e ∙ passed_end set last k h in
+    rw (eq-eqb set 0 (passed_all set last hs hl (λ l. omega arith)))

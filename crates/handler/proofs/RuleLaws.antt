@@ -3,31 +3,27 @@ use Prim.Native.Nat.{ℕ, ◌<◌, ◌≤◌}
 use mathlib.Core.Path.{◌≡◌, refl, sym, ◌∙◌, ap}
 use mathlib.Core.Bool.{Bool, true, false}
 use mathlib.Core.Logic.{◌≢◌}
-use mathlib.Core.Option.{Option, none, some, Option-elim}
+use Rattle.std.specs.Prelude.{Option, None, Some}
+use Rattle.std.specs.Option.{option_map_or}
 use mathlib.Core.List.{List, [], ◌∷◌}
 use native.Mathlib.Omega.{arith}
 use lib.Dec.{eqb}
 use borrow.Author.Tests.{eq-eqb}
 use Rattle.handler.specs.declared.Class.{Class}
 use Rattle.handler.specs.declared.Class.TheVariants.{High, Low}
-use Rattle.handler.specs.declared.Lock.{Lock}
-use Rattle.handler.specs.declared.Lock.TheVariants.{Free, Owner}
 use Rattle.handler.specs.declared.State.{State}
-use Rattle.handler.specs.declared.Grant.TheVariants.{Nobody}
-use Rattle.handler.specs.declared.Arbitration.{Arbitration}
-use Rattle.handler.specs.Handler.{last_unit, owner_of, lock_next, locked, distance, moved, granted, nobody, allowed, refused, arbitration, initial}
+use Rattle.handler.specs.Handler.{Arbitration, last_unit, lock_next, locked, distance, moved, granted, nobody, allowed, refused, arbitration, initial}
 use Rattle.numeric.specs.Bits.{contains}
 use Rattle.handler.specs.Waiting.{Input, answer, calls, each}
 use Rattle.handler.specs.Rule.{FreshState, RefusedKeeps, LockRule, GrantsFirst, is_owner_last, OwnerIsLast}
 use Rattle.handler.proofs.Allowed.{last_allowed, call_state_allowed}
-use Rattle.handler.proofs.StateParts.{owner_of_lem, no_owner}
 use Rattle.handler.proofs.GrantCases.{Ruling, refusing, granting, nothing_to_grant, ruling}
 use Rattle.handler.proofs.HandlerLaws.{accepted_allowed, lock_first, granted_accepted, granted_asks, granted_nearest}
 
 -- ---- the fresh state
 
 pub fresh_state_lem : FreshState
-unfolding FreshState initial last_unit owner_of
+unfolding FreshState initial last_unit
 fresh_state_lem = (both, refl)
   where
     both : (c : Class) → last_unit c initial ≡ 7
@@ -41,20 +37,20 @@ unfolding RefusedKeeps arbitration refused
 refused_keeps s high low lck = on (allowed s high low) refl
   where
     on : (t : Bool) → allowed s high low ≡ t → (arbitration s high low lck).refusal ≢ 0 →
-        arbitration s high low lck ≡ record { refusal = 10; grant = Nobody; state = s }
+        arbitration s high low lck ≡ record { refusal = 10; grant = None; state = s }
     on true e n = absurd (n ((accepted_allowed s high low lck).1 e))
     on false e n = rw e
 
 -- ---- the lock
 
 pub lock_rule : (s : State) (high low : ℕ) → LockRule s high low
-unfolding lock_next owner_of
+unfolding lock_next
 lock_rule s high low = record {
-  clears = λ e. ap owner_of (lock_first s high low false ((accepted_allowed s high low false).0 e));
+  clears = λ e. lock_first s high low false ((accepted_allowed s high low false).0 e);
   takes = λ e n.
-      ap owner_of (lock_first s high low true ((accepted_allowed s high low true).0 e)) ∙ ap (λ l. owner_of (lock_next true l s.last_low)) (no_owner s.lock n);
+      lock_first s high low true ((accepted_allowed s high low true).0 e) ∙ ap (λ l. lock_next true l s.last_low) n;
   keeps = λ e o h.
-      ap owner_of (lock_first s high low true ((accepted_allowed s high low true).0 e)) ∙ ap (λ l. owner_of (lock_next true l s.last_low)) (owner_of_lem o s.lock h);
+      lock_first s high low true ((accepted_allowed s high low true).0 e) ∙ ap (λ l. lock_next true l s.last_low) h;
 }
 
 -- ---- the first member met
@@ -100,32 +96,32 @@ grants_first s high low lck c u e f =
 -- ---- the owner is the last low unit
 
 unfoldable pub Owned : State → Type 0
-Owned s = (o : ℕ) → owner_of s.lock ≡ some o → o ≡ s.last_low
+Owned s = (o : ℕ) → s.lock ≡ Some o → o ≡ s.last_low
 
-lock_owned : (lck : Bool) (lock : Lock) (last : ℕ) → ((o : ℕ) → owner_of lock ≡ some o → o ≡ last) →
-    (o : ℕ) → owner_of (lock_next lck lock last) ≡ some o → o ≡ last
-unfolding lock_next owner_of
+lock_owned : (lck : Bool) (lock : Option ℕ) (last : ℕ) → ((o : ℕ) → lock ≡ Some o → o ≡ last) →
+    (o : ℕ) → lock_next lck lock last ≡ Some o → o ≡ last
+unfolding lock_next
 lock_owned false lock last h o e = let z : ◌≡◌ {A = ℕ} 0 1 = cc in absurd (omega arith)
-lock_owned true Free last h o e = cc
-lock_owned true (Owner u) last h o e = h o e
+lock_owned true None last h o e = cc
+lock_owned true (Some u) last h o e = h o e
 
 stays_owned : (s : State) (high low : ℕ) (lck : Bool) → Owned s → Owned (arbitration s high low lck).state
 unfolding Owned refused granted nobody locked moved
 stays_owned s high low lck h = on (arbitration s high low lck) (ruling s high low lck)
   where
-    on : (a : Arbitration) → Ruling s high low lck a → (o : ℕ) → owner_of a.state.lock ≡ some o → o ≡ a.state.last_low
+    on : (a : Arbitration) → Ruling s high low lck a → (o : ℕ) → a.state.lock ≡ Some o → o ≡ a.state.last_low
     on _ (refusing _) o e = h o e
     on _ (granting High u _ _) o e = lock_owned lck s.lock s.last_low h o e
-    on _ (granting Low u _ w) o e = sym (w.owner_only refl o (owner_of_lem o _ e))
+    on _ (granting Low u _ w) o e = sym (w.owner_only refl o e)
     on _ (nothing_to_grant _ _ _ _) o e = lock_owned lck s.lock s.last_low h o e
 
-told : (s : State) → Owned s → Option-elim (owner_of s.lock) true (λ o. eqb o s.last_low) ≡ true
-unfolding Owned Option-elim
-told s h = on (owner_of s.lock) refl
+told : (s : State) → Owned s → option_map_or (λ o. eqb o s.last_low) s.lock true ≡ true
+unfolding Owned
+told s h = on s.lock refl
   where
-    on : (x : Option ℕ) → owner_of s.lock ≡ x → Option-elim x true (λ o. eqb o s.last_low) ≡ true
-    on none e = refl
-    on (some o) e = eq-eqb o s.last_low (h o e)
+    on : (x : Option ℕ) → s.lock ≡ x → option_map_or (λ o. eqb o s.last_low) x true ≡ true
+    on None e = refl
+    on (Some o) e = eq-eqb o s.last_low (h o e)
 
 owned_calls : (s : State) → Owned s → (is : List Input) → each is_owner_last (calls s is) ≡ true
 unfolding each calls is_owner_last answer
@@ -135,5 +131,5 @@ owned_calls s h (i ∷ is) =
     rw (told (arbitration s i.high i.low i.lck).state n) (owned_calls (arbitration s i.high i.low i.lck).state n is)
 
 pub owner_is_last : OwnerIsLast
-unfolding OwnerIsLast Owned initial owner_of
+unfolding OwnerIsLast Owned initial
 owner_is_last is = owned_calls initial (λ o e. let z : ◌≡◌ {A = ℕ} 0 1 = cc in absurd (omega arith)) is

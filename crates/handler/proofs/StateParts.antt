@@ -2,61 +2,49 @@
 use Prim.Native.Nat.{ℕ, ◌≤◌}
 use mathlib.Core.Path.{◌≡◌, refl, sym, ◌∙◌}
 use mathlib.Core.Bool.{Bool, true}
-use mathlib.Core.Option.{none, some, some-ne-none}
+use Rattle.std.specs.Prelude.{Option, None, Some}
+use Rattle.std.proofs.lemmas.Option.{none-some}
 use native.Mathlib.Omega.{arith}
 use borrow.Author.Tests.{le-leb}
 use Rattle.handler.specs.declared.Class.{Class}
 use Rattle.handler.specs.declared.Class.TheVariants.{High, Low}
-use Rattle.handler.specs.declared.Lock.{Lock}
-use Rattle.handler.specs.declared.Lock.TheVariants.{Free, Owner}
 use Rattle.handler.specs.declared.State.{State}
-use Rattle.handler.specs.declared.Grant.TheVariants.{Nobody, To}
-use Rattle.handler.specs.Handler.{last_unit, owner_of, unit_granted, locked, moved, lock_allowed}
+use Rattle.handler.specs.Handler.{granted_in, to, last_unit, unit_granted, locked, moved, lock_allowed}
 
 -- a grant
 
-pub unit_granted_lem : (c : Class) (u : ℕ) → unit_granted c (To c u) ≡ some u
-unfolding unit_granted
+pub unit_granted_lem : (c : Class) (u : ℕ) → unit_granted c (to c u) ≡ Some u
+unfolding unit_granted granted_in
 unit_granted_lem High u = refl
 unit_granted_lem Low u = refl
 
-pub granted_some : (c : Class) (u : ℕ) → unit_granted c (To c u) ≡ none → ⊥
-granted_some c u e = some-ne-none u (sym (unit_granted_lem c u) ∙ e)
+pub granted_some : (c : Class) (u : ℕ) → unit_granted c (to c u) ≡ None → ⊥
+granted_some c u e = none-some u (sym e ∙ unit_granted_lem c u)
 
-pub granted_same : (c d : Class) (u v : ℕ) → unit_granted c (To d u) ≡ some v → (d ≡ c) × (u ≡ v)
-unfolding unit_granted
+pub granted_same : (c d : Class) (u v : ℕ) → unit_granted c (to d u) ≡ Some v → (d ≡ c) × (u ≡ v)
+unfolding unit_granted granted_in
 granted_same High High u v e = (refl, cc)
 granted_same High Low u v e = let z : ◌≡◌ {A = ℕ} 0 1 = cc in absurd (omega arith)
 granted_same Low High u v e = let z : ◌≡◌ {A = ℕ} 0 1 = cc in absurd (omega arith)
 granted_same Low Low u v e = (refl, cc)
 
-pub granted_other : (c d : Class) (u : ℕ) → (d ≡ c → ⊥) → unit_granted d (To c u) ≡ none
-unfolding unit_granted
+pub granted_other : (c d : Class) (u : ℕ) → (d ≡ c → ⊥) → unit_granted d (to c u) ≡ None
+unfolding unit_granted granted_in
 granted_other High High u n = absurd (n refl)
 granted_other High Low u n = refl
 granted_other Low High u n = refl
 granted_other Low Low u n = absurd (n refl)
 
-pub not_granted : (c : Class) (u : ℕ) → unit_granted c Nobody ≡ some u → ⊥
-unfolding unit_granted
+pub not_granted : (c : Class) (u : ℕ) → unit_granted c None ≡ Some u → ⊥
+unfolding unit_granted granted_in
 not_granted c u e = let z : ◌≡◌ {A = ℕ} 0 1 = cc in omega arith
 
 -- a lock
 
-pub owner_of_lem : (u : ℕ) (lock : Lock) → owner_of lock ≡ some u → lock ≡ Owner u
-unfolding owner_of
-owner_of_lem u Free e = let z : ◌≡◌ {A = ℕ} 0 1 = cc in absurd (omega arith)
-owner_of_lem u (Owner v) e = cc
-
-pub no_owner : (lock : Lock) → owner_of lock ≡ none → lock ≡ Free
-unfolding owner_of
-no_owner Free e = refl
-no_owner (Owner v) e = let z : ◌≡◌ {A = ℕ} 0 1 = cc in absurd (omega arith)
-
-pub lock_within : (lock : Lock) → ((o : ℕ) → owner_of lock ≡ some o → o ≤ 7) → lock_allowed lock ≡ true
-unfolding owner_of lock_allowed
-lock_within Free h = refl
-lock_within (Owner o) h = le-leb o 7 (h o refl)
+pub lock_within : (lock : Option ℕ) → ((o : ℕ) → lock ≡ Some o → o ≤ 7) → lock_allowed lock ≡ true
+unfolding lock_allowed
+lock_within None h = refl
+lock_within (Some o) h = le-leb o 7 (h o refl)
 
 -- a state
 
@@ -65,8 +53,8 @@ unfolding last_unit moved
 last_moved High u s = refl
 last_moved Low u s = refl
 
-pub last_kept : (c d : Class) (u : ℕ) (s : State) → unit_granted d (To c u) ≡ none → last_unit d (moved c u s) ≡ last_unit d s
-unfolding unit_granted last_unit moved
+pub last_kept : (c d : Class) (u : ℕ) (s : State) → unit_granted d (to c u) ≡ None → last_unit d (moved c u s) ≡ last_unit d s
+unfolding unit_granted granted_in last_unit moved
 last_kept High High u s e = let z : ◌≡◌ {A = ℕ} 0 1 = cc in absurd (omega arith)
 last_kept High Low u s e = refl
 last_kept Low High u s e = refl

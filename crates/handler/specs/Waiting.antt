@@ -1,12 +1,11 @@
 -- "Nobody waits forever" (document 02, T-09): what is claimed of a list of calls of any length, once for both classes of request.
 use Rattle.std.specs.Prelude.{ℕ, zero, suc, ◌≤◌, ◌≡◌, Bool, true, false, cond, ◌&&◌, ◌||◌, List, [], ◌∷◌, length, replicate, eqb}
-use Rattle.std.proofs.Math.Option.{Option-elim}
+use Rattle.std.specs.Option.{option_map_or, is_none, is_some}
 use Rattle.order.specs.Refusal.{accepted}
 use Rattle.handler.specs.declared.Class.{Class}
 use Rattle.handler.specs.declared.Class.TheVariants.{High, Low}
 use Rattle.handler.specs.declared.State.{State}
-use Rattle.handler.specs.declared.Arbitration.{Arbitration}
-use Rattle.handler.specs.Handler.{owner_of, requests, unit_granted, state_allowed, sets_allowed, arbitration, initial}
+use Rattle.handler.specs.Handler.{Arbitration, requests, unit_granted, state_allowed, sets_allowed, arbitration, initial}
 use Rattle.numeric.specs.Bits.{contains}
 
 -- ---- a list of calls
@@ -41,15 +40,15 @@ asks c u k = contains (requests c k.input.high k.input.low) u
 
 -- the call gives a grant of class c
 unfoldable pub is_grant : Class → Call → Bool
-is_grant c k = Option-elim (unit_granted c (answer k).grant) false (λ v. true)
+is_grant c k = is_some (unit_granted c (answer k).grant)
 
 -- it gives it to unit u
 unfoldable pub is_grant_to : Class → ℕ → Call → Bool
-is_grant_to c u k = Option-elim (unit_granted c (answer k).grant) false (λ v. eqb v u)
+is_grant_to c u k = option_map_or (λ v. eqb v u) (unit_granted c (answer k).grant) false
 
 -- no lock is held: the lock that a call leaves is the one that its grant was decided by
 unfoldable pub is_unlocked : Call → Bool
-is_unlocked k = Option-elim (owner_of (answer k).state.lock) true (λ o. false)
+is_unlocked k = is_none (answer k).state.lock
 
 -- "RQH empty and no lock"
 unfoldable pub is_clear : Call → Bool
