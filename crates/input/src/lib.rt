@@ -1,51 +1,27 @@
 // A reader read into a buffer, with a read that failed told from the end. Which bytes come is the system's: no contract speaks of them.
 #![tactic(auto)]
 
-ghost use Rattle.std.specs.Prelude.{◌≡◌, ◌≤◌, length, take};
+ghost use Rattle.std.specs.Prelude.{◌≡◌, ◌≤◌, length, take, MatchResult};
 
 use std::io::Read;
 
-// How many bytes were read, and whether a read failed.
-#[derive(Clone, Copy)]
-pub struct Input {
+// A read failed, and how many bytes were read before it.
+#[derive(Clone, Copy, Debug, PartialEq, Eq)]
+pub struct ReadError {
     pub size: usize,
-    pub failed: bool,
 }
 
-// One read.
-fn read_part<R: Read>(from: &mut R, part: &mut [u8]) -> Input
-    ensures { result.size ≤ length part.new }
+// Reads until the buffer is full, the input ends or a read fails, and says how many bytes were read. They stand at the start of the buffer.
+pub fn read_input<R: Read>(from: &mut R, buffer: &mut [u8]) -> Result<usize, ReadError>
+    ensures { MatchResult result (λ size. (size ≤ length buffer.new) × (size ≡ length (take size buffer.new))) (λ error. (error.size ≤ length buffer.new) × (error.size ≡ length (take error.size buffer.new))) }
 {
-    match from.read(part) {
-        Ok(size) => Input {
-            size,
-            failed: false,
-        },
-        Err(_) => Input {
-            size: 0,
-            failed: true,
-        },
-    }
-}
-
-// Reads until the buffer is full, the input ends or a read fails. The bytes read stand at the start of the buffer.
-pub fn read_input<R: Read>(from: &mut R, buffer: &mut [u8]) -> Input
-    ensures { (result.size ≤ length buffer.new) × (result.size ≡ length (take result.size buffer.new)) }
-{
-    let mut at: usize = 0;
-    while at < buffer.len() {
-        let part = read_part(from, &mut buffer[at..]);
-        let n = part.size;
-        if n == 0 {
-            return Input {
-                size: at,
-                failed: part.failed,
-            };
+    let mut size = 0;
+    while size < buffer.len() {
+        match from.read(&mut buffer[size..]) {
+            Ok(0) => break,
+            Ok(n) => size += n,
+            Err(_) => return Err(ReadError { size }),
         }
-        at += n;
     }
-    Input {
-        size: at,
-        failed: false,
-    }
+    Ok(size)
 }
