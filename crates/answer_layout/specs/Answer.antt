@@ -3,7 +3,7 @@ use Rattle.std.specs.Prelude.{ℕ, zero, suc, List, [], ◌∷◌, ◌++◌, con
 use Rattle.order.specs.declared.Order.{Order}
 use Rattle.order.specs.Command.{command_number}
 use Rattle.order.specs.Flag.{flag}
-use Rattle.coherence.specs.declared.Answer.{Answer}
+use Rattle.coherence.specs.Answer.{Answer}
 use Rattle.coherence.specs.Calls.{no_order}
 
 -- the numbers of an answer

@@ -1,7 +1,7 @@
 -- The numbers of an answer as include/trainer.h tells them, computed; all fields are different.
 use Rattle.std.specs.Prelude.{◌≡◌, true, false, [], ◌∷◌, ◌++◌, replicate}
 use Rattle.order.specs.declared.Command.TheVariants.{ModifiedRead, Copyback}
-use Rattle.coherence.specs.declared.Answer.{Answer}
+use Rattle.coherence.specs.Answer.{Answer}
 use Rattle.coherence.specs.Settings.{drill_settings}
 use Rattle.coherence.specs.Slots.{cold_directory}
 use Rattle.coherence.specs.Calls.{packed}
