@@ -9,10 +9,10 @@ use Rattle.bus.specs.declared.answer.Class.TheVariants.{NoError, NoErrorLock, Re
 use Rattle.bus.specs.Answer.{class_of}
 use Rattle.bus.proofs.AnswerLaws.{code_of_class}
 use Rattle.crossing.proofs.CappedLaws.{caps}
-use Rattle.capi_bus.specs.declared.class.ClassFound.TheVariants.{Known}
+use Rattle.std.specs.Prelude.{Some}
 use Rattle.capi_bus.specs.Class.{class_number, carried_of, plain_class, class_from, code_asked, Inverse}
 
-back : (k : Class) → carried_of k ≤ 255 → class_from (class_number k) (carried_of k) ≡ Known k
+back : (k : Class) → carried_of k ≤ 255 → class_from (class_number k) (carried_of k) ≡ Some k
 unfolding class_from plain_class class_number carried_of
 back NoError h = refl
 back NoErrorLock h = refl

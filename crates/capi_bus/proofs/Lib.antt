@@ -1,3 +1,2 @@
-pub mod BusLaws
 pub mod ClassLaws
 pub mod Examples

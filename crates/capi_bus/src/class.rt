@@ -1,17 +1,12 @@
-// An answer's class as two numbers: which class, and the number that it carries, 0 where it carries none.
+// An answer's class as two numbers: which class, and the number that it carries, 0 where it carries none. The numbers of the classes are the C
+// interface's: `include/trainer.h` lists them.
 ghost use Rattle.std.specs.Prelude.{◌≡◌};
-ghost use Rattle.capi_bus.specs.Class.{class_number, carried_of, plain_class, class_from};
+ghost use Rattle.capi_bus.specs.Class.{class_number, carried_of, class_from};
 
 use bus::answer::Class;
-use crossing::byte;
+use crossing::capped;
 
-// The class that two numbers stand for, if there is one.
-#[derive(Clone, Copy)]
-pub(crate) enum ClassFound {
-    Known(Class),
-    Unknown,
-}
-
+#[tactic(auto, unfolding(crate::specs::Class::class_number))]
 pub(crate) fn class_number(class: Class) -> u32
     ensures { result ≡ class_number class }
 {
@@ -28,48 +23,35 @@ pub(crate) fn class_number(class: Class) -> u32
     }
 }
 
+#[tactic(auto, unfolding(crate::specs::Class::carried_of))]
 pub(crate) fn carried_of(class: Class) -> u32
     ensures { result ≡ carried_of class }
 {
     match class {
-        Class::NoError => 0,
-        Class::NoErrorLock => 0,
-        Class::ReservedNoError(n) => n as u32,
-        Class::UserNoError(n) => n as u32,
-        Class::HardwareError => 0,
-        Class::IllegalCommand => 0,
-        Class::BusSequenceError => 0,
-        Class::ReservedError(n) => n as u32,
-        Class::UserError(n) => n as u32,
+        Class::ReservedNoError(n)
+        | Class::UserNoError(n)
+        | Class::ReservedError(n)
+        | Class::UserError(n) => n.into(),
+        _ => 0,
     }
 }
 
-// A class that carries no number.
-fn plain_class(class: u32, carried: u32) -> ClassFound
-    ensures { result ≡ plain_class class carried }
-{
-    if carried != 0 {
-        return ClassFound::Unknown;
-    }
-    match class {
-        0 => ClassFound::Known(Class::NoError),
-        1 => ClassFound::Known(Class::NoErrorLock),
-        4 => ClassFound::Known(Class::HardwareError),
-        5 => ClassFound::Known(Class::IllegalCommand),
-        6 => ClassFound::Known(Class::BusSequenceError),
-        _ => ClassFound::Unknown,
-    }
-}
-
-pub(crate) fn class_from(class: u32, carried: u32) -> ClassFound
+// The class that two numbers stand for, if there is one.
+#[tactic(auto, unfolding(crate::specs::Class::class_from, crate::specs::Class::plain_class))]
+pub(crate) fn class_from(class: u32, carried: u32) -> Option<Class>
     ensures { result ≡ class_from class carried }
 {
-    let n = byte(carried as u64);
-    match class {
-        2 => ClassFound::Known(Class::ReservedNoError(n)),
-        3 => ClassFound::Known(Class::UserNoError(n)),
-        7 => ClassFound::Known(Class::ReservedError(n)),
-        8 => ClassFound::Known(Class::UserError(n)),
-        _ => plain_class(class, carried),
+    let n = capped(carried.into());
+    match (class, carried) {
+        (0, 0) => Some(Class::NoError),
+        (1, 0) => Some(Class::NoErrorLock),
+        (2, _) => Some(Class::ReservedNoError(n)),
+        (3, _) => Some(Class::UserNoError(n)),
+        (4, 0) => Some(Class::HardwareError),
+        (5, 0) => Some(Class::IllegalCommand),
+        (6, 0) => Some(Class::BusSequenceError),
+        (7, _) => Some(Class::ReservedError(n)),
+        (8, _) => Some(Class::UserError(n)),
+        _ => None,
     }
 }

@@ -1,10 +1,11 @@
 // Parity, lanes, signals and answer codes for programs in other languages.
 ghost use Rattle.std.specs.Prelude.{◌≡◌};
 ghost use Rattle.order.specs.Flag.{flag};
+ghost use Rattle.order.specs.Refusal.{number_of};
 ghost use Rattle.bus.specs.Parity.{parity_of, check_of};
 ghost use Rattle.bus.specs.Lanes.{lanes_of};
-ghost use Rattle.bus.specs.Answer.{class_of, is_error, refusal_of};
-ghost use Rattle.capi_bus.specs.Bus.{left, most, plan_from};
+ghost use Rattle.bus.specs.Answer.{class_of, is_error};
+ghost use Rattle.capi_bus.specs.Bus.{left, left_of, most, plan_from};
 ghost use Rattle.capi_bus.specs.Class.{class_number, carried_of, class_from, code_asked, code_left};
 
 // The eight parity bits of a word.
@@ -26,7 +27,7 @@ pub extern "C" fn trainer_check(word: u64, set: u32, wrong: &mut u32, count: &mu
 // The words and positions of a register access.
 #[unsafe(no_mangle)]
 pub extern "C" fn trainer_lanes(ra: u32, bct: u32, words: &mut u32, positions: &mut u32) -> u32
-    ensures { (result ≡ (lanes_of ra bct).refusal) × (words.new ≡ left (lanes_of ra bct).refusal (lanes_of ra bct).words words.old) × (positions.new ≡ left (lanes_of ra bct).refusal (lanes_of ra bct).positions positions.old) }
+    ensures { (result ≡ number_of (lanes_of ra bct)) × (words.new ≡ left_of (lanes_of ra bct) (λ l. l.words) words.old) × (positions.new ≡ left_of (lanes_of ra bct) (λ l. l.positions) positions.old) }
 {
     capi_bus::trainer_lanes(ra, bct, words, positions)
 }
@@ -42,7 +43,7 @@ pub extern "C" fn trainer_plan(
     et: &mut u32,
     et_at_request: &mut u32,
 ) -> u32
-    ensures { (result ≡ (plan_from cycles cycle locked).refusal) × (bs.new ≡ left (plan_from cycles cycle locked).refusal (flag (plan_from cycles cycle locked).bs) bs.old) × (bur.new ≡ left (plan_from cycles cycle locked).refusal (flag (plan_from cycles cycle locked).bur) bur.old) × (et.new ≡ left (plan_from cycles cycle locked).refusal (flag (plan_from cycles cycle locked).et) et.old) × (et_at_request.new ≡ left (plan_from cycles cycle locked).refusal (flag (plan_from cycles cycle locked).et_at_request) et_at_request.old) }
+    ensures { (result ≡ number_of (plan_from cycles cycle locked)) × (bs.new ≡ left_of (plan_from cycles cycle locked) (λ p. flag p.bs) bs.old) × (bur.new ≡ left_of (plan_from cycles cycle locked) (λ p. flag p.bur) bur.old) × (et.new ≡ left_of (plan_from cycles cycle locked) (λ p. flag p.et) et.old) × (et_at_request.new ≡ left_of (plan_from cycles cycle locked) (λ p. flag p.et_at_request) et_at_request.old) }
 {
     capi_bus::trainer_plan(cycles, cycle, locked, bs, bur, et, et_at_request)
 }
@@ -63,7 +64,7 @@ pub extern "C" fn trainer_class(
 // The code of a class.
 #[unsafe(no_mangle)]
 pub extern "C" fn trainer_code(class: u32, carried: u32, code: &mut u32) -> u32
-    ensures { (result ≡ refusal_of (code_asked (class_from class carried))) × (code.new ≡ code_left (code_asked (class_from class carried)) code.old) }
+    ensures { (result ≡ number_of (code_asked (class_from class carried))) × (code.new ≡ code_left (code_asked (class_from class carried)) code.old) }
 {
     capi_bus::trainer_code(class, carried, code)
 }
