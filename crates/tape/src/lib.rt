@@ -1,206 +1,127 @@
-// Reading a record, one function for each kind (document 01, "The tape"; document 02, T-04).
-#![tactic(auto)]
+// Reading a record, one function for each kind (document 01, "The tape"; document 02, T-04). Each takes the fields in the table's order, a line for a field; the
+// first number that is refused ends it. The place goes from line to line as a number: a cursor with a method would hold the same two and say no more.
+#![tactic(auto, unfolding(tape_format::specs::Record::load, tape_format::specs::Record::store, tape_format::specs::Record::flush, tape_format::specs::Record::order, tape_format::specs::Record::answer, tape_format::specs::Record::register, tape_format::specs::Record::loaded, tape_format::specs::Record::stamp, tape_format::specs::Record::fields_at, tape_format::specs::Record::and_then, tape_format::specs::Record::and_command))]
 
-ghost use Rattle.std.specs.Prelude.{◌≡◌, ℕ};
+ghost use Rattle.std.specs.Prelude.{◌≡◌};
 ghost use Rattle.tape_format.specs.Record.{fields_at, load, store, flush, answer, register, loaded, stamp, kind_at, record_at};
 
-use number::{NumberRead, read_number};
-use order::{Command, CommandFound, FIELD_RANGE, Order, UNKNOWN_KIND, command_of};
+use number::{Refused, read_number};
+use order::{Command, Order, Refusal};
 use tape_field::field;
-use tape_format::{Record, RecordRead, Rule};
-
-// A number's refusal as the record's. It is called with refusals alone: of any other answer nothing is promised.
-fn refused(read: NumberRead) -> RecordRead
-    ensures { (number place : ℕ) → read ≡ NumberRead.Refused number place → result ≡ RecordRead.Refused number place }
-{
-    match read {
-        NumberRead::Refused(number, place) => RecordRead::Refused(number, place),
-        NumberRead::Number(_, place) => RecordRead::Refused(FIELD_RANGE, place),
-    }
-}
+use tape_format::{Record, Rule};
 
 // Kind 0: unit, address.
-fn read_load(tape: &[u8], at: usize) -> RecordRead
+fn read_load(tape: &[u8], at: usize) -> Result<Option<(Record, usize)>, Refused>
     ensures { result ≡ fields_at load tape.now at }
 {
-    let unit = field(tape, at, Rule::Unit);
-    let NumberRead::Number(u, second) = unit else {
-        return refused(unit);
-    };
-    let address = field(tape, second, Rule::Address);
-    let NumberRead::Number(a, next) = address else {
-        return refused(address);
-    };
-    RecordRead::Record(Record::Load(u as u8, a as u32), next)
+    let (unit, at) = field(tape, at, Rule::Unit)?;
+    let (address, at) = field(tape, at, Rule::Address)?;
+    Ok(Some((Record::Load(unit as u8, address as u32), at)))
 }
 
 // Kind 1: unit, address, value.
-fn read_store(tape: &[u8], at: usize) -> RecordRead
+fn read_store(tape: &[u8], at: usize) -> Result<Option<(Record, usize)>, Refused>
     ensures { result ≡ fields_at store tape.now at }
 {
-    let unit = field(tape, at, Rule::Unit);
-    let NumberRead::Number(u, second) = unit else {
-        return refused(unit);
-    };
-    let address = field(tape, second, Rule::Address);
-    let NumberRead::Number(a, third) = address else {
-        return refused(address);
-    };
-    let value = field(tape, third, Rule::Word);
-    let NumberRead::Number(v, next) = value else {
-        return refused(value);
-    };
-    RecordRead::Record(Record::Store(u as u8, a as u32, v as u32), next)
+    let (unit, at) = field(tape, at, Rule::Unit)?;
+    let (address, at) = field(tape, at, Rule::Address)?;
+    let (value, at) = field(tape, at, Rule::Word)?;
+    Ok(Some((Record::Store(unit as u8, address as u32, value as u32), at)))
 }
 
 // Kind 2: unit, block.
-fn read_flush(tape: &[u8], at: usize) -> RecordRead
+fn read_flush(tape: &[u8], at: usize) -> Result<Option<(Record, usize)>, Refused>
     ensures { result ≡ fields_at flush tape.now at }
 {
-    let unit = field(tape, at, Rule::Unit);
-    let NumberRead::Number(u, second) = unit else {
-        return refused(unit);
-    };
-    let block = field(tape, second, Rule::Block);
-    let NumberRead::Number(b, next) = block else {
-        return refused(block);
-    };
-    RecordRead::Record(Record::Flush(u as u8, b as u8), next)
+    let (unit, at) = field(tape, at, Rule::Unit)?;
+    let (block, at) = field(tape, at, Rule::Block)?;
+    Ok(Some((Record::Flush(unit as u8, block as u8), at)))
 }
 
 // Kind 3: unit, command, block, retried.
-fn read_order(tape: &[u8], at: usize) -> RecordRead
+fn read_order(tape: &[u8], at: usize) -> Result<Option<(Record, usize)>, Refused>
     ensures { result ≡ fields_at Rattle.tape_format.specs.Record.order tape.now at }
 {
-    let unit = field(tape, at, Rule::Unit);
-    let NumberRead::Number(u, second) = unit else {
-        return refused(unit);
-    };
-    let number = read_number(tape, second);
-    let NumberRead::Number(n, third) = number else {
-        return refused(number);
-    };
-    let found = command_of(n);
-    let CommandFound::Known(command) = found else {
-        return RecordRead::Refused(FIELD_RANGE, second);
-    };
-    let block = field(tape, third, Rule::Block);
-    let NumberRead::Number(b, fourth) = block else {
-        return refused(block);
-    };
-    let retried = field(tape, fourth, Rule::Retried(command));
-    let NumberRead::Number(t, next) = retried else {
-        return refused(retried);
-    };
+    let (unit, command_at) = field(tape, at, Rule::Unit)?;
+    let (number, block_at) = read_number(tape, command_at)?;
+    let command = Command::try_from(number).map_err(|refusal| Refused {
+        refusal,
+        place: command_at,
+    })?;
+    let (block, at) = field(tape, block_at, Rule::Block)?;
+    let (retried, at) = field(tape, at, Rule::Retried(command))?;
     let order = Order {
-        unit: u as u8,
+        unit: unit as u8,
         command,
-        block: b as u8,
-        retried: t == 1,
+        block: block as u8,
+        retried: retried == 1,
     };
-    RecordRead::Record(Record::Order(order), next)
+    Ok(Some((Record::Order(order), at)))
 }
 
 // Kind 4: from, to, AID, code.
-fn read_answer(tape: &[u8], at: usize) -> RecordRead
+fn read_answer(tape: &[u8], at: usize) -> Result<Option<(Record, usize)>, Refused>
     ensures { result ≡ fields_at answer tape.now at }
 {
-    let from = field(tape, at, Rule::From);
-    let NumberRead::Number(f, second) = from else {
-        return refused(from);
+    let (from, at) = field(tape, at, Rule::From)?;
+    let (to, at) = field(tape, at, Rule::To(from))?;
+    let (aid, at) = field(tape, at, Rule::Byte)?;
+    let (code, at) = field(tape, at, Rule::Byte)?;
+    let answer = Record::Answer {
+        from: from as u8,
+        to: to as u8,
+        aid: aid as u8,
+        code: code as u8,
     };
-    let to = field(tape, second, Rule::To(f));
-    let NumberRead::Number(t, third) = to else {
-        return refused(to);
-    };
-    let aid = field(tape, third, Rule::Byte);
-    let NumberRead::Number(a, fourth) = aid else {
-        return refused(aid);
-    };
-    let code = field(tape, fourth, Rule::Byte);
-    let NumberRead::Number(c, next) = code else {
-        return refused(code);
-    };
-    RecordRead::Record(
-        Record::Answer {
-            from: f as u8,
-            to: t as u8,
-            aid: a as u8,
-            code: c as u8,
-        },
-        next,
-    )
+    Ok(Some((answer, at)))
 }
 
 // Kind 5: from, to, AID, write, RA, BCT.
-fn read_register(tape: &[u8], at: usize) -> RecordRead
+fn read_register(tape: &[u8], at: usize) -> Result<Option<(Record, usize)>, Refused>
     ensures { result ≡ fields_at register tape.now at }
 {
-    let from = field(tape, at, Rule::From);
-    let NumberRead::Number(f, second) = from else {
-        return refused(from);
+    let (from, at) = field(tape, at, Rule::From)?;
+    let (to, at) = field(tape, at, Rule::To(from))?;
+    let (aid, at) = field(tape, at, Rule::Byte)?;
+    let (write, at) = field(tape, at, Rule::Flag)?;
+    let (ra, at) = field(tape, at, Rule::Word)?;
+    let (bct, at) = field(tape, at, Rule::Bct)?;
+    let register = Record::Register {
+        from: from as u8,
+        to: to as u8,
+        aid: aid as u8,
+        write: write == 1,
+        ra: ra as u32,
+        bct: bct as u8,
     };
-    let to = field(tape, second, Rule::To(f));
-    let NumberRead::Number(t, third) = to else {
-        return refused(to);
-    };
-    let aid = field(tape, third, Rule::Byte);
-    let NumberRead::Number(a, fourth) = aid else {
-        return refused(aid);
-    };
-    let write = field(tape, fourth, Rule::Flag);
-    let NumberRead::Number(w, fifth) = write else {
-        return refused(write);
-    };
-    let ra = field(tape, fifth, Rule::Word);
-    let NumberRead::Number(r, sixth) = ra else {
-        return refused(ra);
-    };
-    let bct = field(tape, sixth, Rule::Bct);
-    let NumberRead::Number(b, next) = bct else {
-        return refused(bct);
-    };
-    RecordRead::Record(
-        Record::Register {
-            from: f as u8,
-            to: t as u8,
-            aid: a as u8,
-            write: w == 1,
-            ra: r as u32,
-            bct: b as u8,
-        },
-        next,
-    )
+    Ok(Some((register, at)))
 }
 
 // Kind 6: unit, value.
-fn read_loaded(tape: &[u8], at: usize) -> RecordRead
+fn read_loaded(tape: &[u8], at: usize) -> Result<Option<(Record, usize)>, Refused>
     ensures { result ≡ fields_at loaded tape.now at }
 {
-    let unit = field(tape, at, Rule::Unit);
-    let NumberRead::Number(u, second) = unit else {
-        return refused(unit);
-    };
-    let value = field(tape, second, Rule::Word);
-    let NumberRead::Number(v, next) = value else {
-        return refused(value);
-    };
-    RecordRead::Record(Record::Loaded(u as u8, v as u32), next)
+    let (unit, at) = field(tape, at, Rule::Unit)?;
+    let (value, at) = field(tape, at, Rule::Word)?;
+    Ok(Some((Record::Loaded(unit as u8, value as u32), at)))
 }
 
 // Kind 8: cycles.
-fn read_stamp(tape: &[u8], at: usize) -> RecordRead
+fn read_stamp(tape: &[u8], at: usize) -> Result<Option<(Record, usize)>, Refused>
     ensures { result ≡ fields_at stamp tape.now at }
 {
-    let cycles = field(tape, at, Rule::Cycles);
-    let NumberRead::Number(c, next) = cycles else {
-        return refused(cycles);
-    };
-    RecordRead::Record(Record::Stamp(c), next)
+    let (cycles, at) = field(tape, at, Rule::Cycles)?;
+    Ok(Some((Record::Stamp(cycles), at)))
 }
 
 // The record of a kind that stands at `start`, with its fields at `at`.
-fn read_kind(tape: &[u8], start: usize, kind: u64, at: usize) -> RecordRead
+#[tactic(auto, unfolding(tape_format::specs::Record::kind_at, tape_format::specs::Record::layout_of))]
+fn read_kind(
+    tape: &[u8],
+    start: usize,
+    kind: u64,
+    at: usize,
+) -> Result<Option<(Record, usize)>, Refused>
     ensures { result ≡ kind_at tape.now start kind at }
 {
     match kind {
@@ -212,20 +133,21 @@ fn read_kind(tape: &[u8], start: usize, kind: u64, at: usize) -> RecordRead
         5 => read_register(tape, at),
         6 => read_loaded(tape, at),
         8 => read_stamp(tape, at),
-        _ => RecordRead::Refused(UNKNOWN_KIND, start),
+        _ => Err(Refused {
+            refusal: Refusal::UnknownKind,
+            place: start,
+        }),
     }
 }
 
-// The record that starts at `at`.
-pub fn read_record(tape: &[u8], at: usize) -> RecordRead
+// The record that starts at `at`, with the place after it; none at the tape's end.
+#[tactic(auto, unfolding(tape_format::specs::Record::record_at, tape_format::specs::Record::and_then))]
+pub fn read_record(tape: &[u8], at: usize) -> Result<Option<(Record, usize)>, Refused>
     ensures { result ≡ record_at tape.now at }
 {
     if at == tape.len() {
-        return RecordRead::Finished;
+        return Ok(None);
     }
-    let kind = read_number(tape, at);
-    let NumberRead::Number(k, first) = kind else {
-        return refused(kind);
-    };
-    read_kind(tape, at, k, first)
+    let (kind, first) = read_number(tape, at)?;
+    read_kind(tape, at, kind, first)
 }

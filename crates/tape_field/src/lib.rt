@@ -1,26 +1,25 @@
 // The fields of a record: which numbers each may hold (document 01, "The tape"; document 02, T-04).
 #![tactic(auto)]
 
-ghost use Rattle.std.specs.Prelude.{◌≡◌};
-ghost use Rattle.tape_format.specs.Field.{retried_most, allowed, field_at};
+ghost use Rattle.std.specs.Prelude.{◌≡◌, ◌≤◌, IfOk};
+ghost use Rattle.tape_format.specs.Field.{retried_most, allowed, most_of, field_at};
 
-use number::{NumberRead, read_number};
-use order::{Command, FIELD_RANGE};
+use number::{Refused, read_number};
+use order::{Command, Refusal};
 use tape_format::Rule;
 
 // Only a read, a modified read and a memory write can be retried.
+#[tactic(auto, unfolding(tape_format::specs::Field::retried_most))]
 fn retried_most(command: Command) -> u64
     ensures { result ≡ retried_most command }
 {
-    match command {
-        Command::Read => 1,
-        Command::ModifiedRead => 1,
-        Command::Invalidate => 0,
-        Command::Copyback => 0,
-        Command::MemoryWrite => 1,
-    }
+    u64::from(matches!(
+        command,
+        Command::Read | Command::ModifiedRead | Command::MemoryWrite
+    ))
 }
 
+#[tactic(auto, unfolding(tape_format::specs::Field::allowed))]
 pub fn allows(rule: Rule, n: u64) -> bool
     ensures { result ≡ allowed rule n }
 {
@@ -39,16 +38,18 @@ pub fn allows(rule: Rule, n: u64) -> bool
     }
 }
 
-// The number that starts at `at`, if the rule allows it.
-pub fn field(tape: &[u8], at: usize, rule: Rule) -> NumberRead
-    ensures { result ≡ field_at rule tape.now at }
+// The number that starts at `at`, if the rule allows it, with the place after it.
+#[tactic(auto, unfolding(tape_format::specs::Field::field_at, tape_format::specs::Field::ruled), using(tape_format::proofs::FieldLaws::allowed_most))]
+pub fn field(tape: &[u8], at: usize, rule: Rule) -> Result<(u64, usize), Refused>
+    ensures answer { result ≡ field_at rule tape.now at }
+    ensures most { IfOk result (λ p. p.0 ≤ most_of rule) }
 {
-    let read = read_number(tape, at);
-    let NumberRead::Number(value, _) = read else {
-        return read;
-    };
-    if allows(rule, value) {
-        return read;
+    let (value, next) = read_number(tape, at)?;
+    if !allows(rule, value) {
+        return Err(Refused {
+            refusal: Refusal::FieldRange,
+            place: at,
+        });
     }
-    NumberRead::Refused(FIELD_RANGE, at)
+    Ok((value, next))
 }

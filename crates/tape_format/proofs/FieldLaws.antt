@@ -15,7 +15,7 @@ use Rattle.number.proofs.AnswerLaws.{ok_pair}
 use Rattle.tape_format.specs.declared.Rule.{Rule}
 use Rattle.tape_format.specs.declared.Rule.TheVariants.{Unit, Address, Word, Block, Retried, From, To, Byte, Flag, Bct, Cycles}
 use Rattle.number.specs.Number.{number_at}
-use Rattle.tape_format.specs.Field.{retried_most, allowed, ruled, field_at}
+use Rattle.tape_format.specs.Field.{retried_most, allowed, most_of, ruled, field_at}
 
 pub both_true : (a b : Bool) → a && b ≡ true → (a ≡ true) × (b ≡ true)
 both_true true b e = (refl, e)
@@ -48,20 +48,6 @@ ruled_number rule at (Err r) v q e = absurd (let z : ◌≡◌ {A = ℕ} 0 1 = c
 pub field_number : (rule : Rule) (tape : List ℕ) (at v q : ℕ) → field_at rule tape at ≡ Ok (v, q) → (number_at tape at ≡ Ok (v, q)) × (allowed rule v ≡ true)
 unfolding field_at
 field_number rule tape at v q e = ruled_number rule at (number_at tape at) v q e
-
--- the most that a rule allows
-abbrev pub most_of : Rule → ℕ
-most_of Unit = 3
-most_of Address = 2044
-most_of Word = 4294967295
-most_of Block = 63
-most_of (Retried c) = 1
-most_of From = 7
-most_of (To from) = 7
-most_of Byte = 255
-most_of Flag = 1
-most_of Bct = 7
-most_of Cycles = 18446744073709551615
 
 retried_most_lem : (c : Command) → retried_most c ≤ 1
 unfolding retried_most

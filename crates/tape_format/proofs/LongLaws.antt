@@ -15,11 +15,11 @@ use Rattle.order.proofs.CommandLaws.{number_of_command, command_small}
 use Rattle.number.specs.Number.{number_at}
 use Rattle.number.proofs.NumberLaws.{number_moves}
 use Rattle.tape_format.specs.declared.Rule.{Rule}
-use Rattle.tape_format.specs.Field.{allowed}
+use Rattle.tape_format.specs.Field.{allowed, most_of}
 use Rattle.tape_format.specs.Record.{Layout, field, command, end, load, store, flush, order, answer, register, loaded, layout_of, fields_at, record_at, kind_of, fits}
 use Rattle.tape_format.specs.Refused.{Reads}
 use Rattle.tape_format.specs.Ranges.{RefusesKinds, RefusesLong}
-use Rattle.tape_format.proofs.FieldLaws.{both_true, field_allowed, field_banned, most_of, allowed_most}
+use Rattle.tape_format.proofs.FieldLaws.{both_true, field_allowed, field_banned, allowed_most}
 use Rattle.tape_format.proofs.ReadLaws.{on, stop, on_command, no_command, then, of_kind, of_no_kind}
 use Rattle.tape_format.proofs.LayoutLaws.{inv_fits, by_kind, known, valid_fits, in_table}
 use Rattle.tape_format.proofs.RangeLaws.{range_valid}

@@ -30,6 +30,20 @@ allowed Flag n = leb n 1
 allowed Bct n = leb n 7
 allowed Cycles n = leb n 18446744073709551615
 
+-- no rule allows more than this
+abbrev pub most_of : Rule → ℕ
+most_of Unit = 3
+most_of Address = 2044
+most_of Word = 4294967295
+most_of Block = 63
+most_of (Retried c) = 1
+most_of From = 7
+most_of (To from) = 7
+most_of Byte = 255
+most_of Flag = 1
+most_of Bct = 7
+most_of Cycles = 18446744073709551615
+
 -- a number that its rule does not allow is refusal 8, at its start; 5 and 6 come first
 unfoldable pub ruled : Rule → ℕ → Result (ℕ × ℕ) Refused → Result (ℕ × ℕ) Refused
 ruled rule at (Ok (v, next)) = cond (allowed rule v) (Ok (v, next)) (Err (record { refusal = why.FieldRange; place = at }))
