@@ -5,7 +5,9 @@
 ghost use Rattle.std.specs.Prelude.{◌≡◌};
 ghost use Rattle.tape_format.specs.Record.{fields_at, load, store, flush, answer, register, loaded, stamp, kind_at, record_at};
 
-use number::{Refused, read_number};
+pub use number::Refused;
+
+use number::read_number;
 use order::{Command, Order, Refusal};
 use tape_field::field;
 use tape_format::{Record, Rule};

@@ -5,20 +5,8 @@ ghost use Rattle.std.specs.Prelude.{◌≡◌};
 ghost use Rattle.tape_format.specs.Record.{record_at};
 ghost use Rattle.tape_format.specs.Reader.{place_after};
 
-use number::Refused;
-use tape::read_record;
+use tape::{Refused, read_record};
 use tape_format::Record;
-
-// The place after the record that starts at `place`; `place` itself at the tape's end and on a refusal.
-#[tactic(auto, unfolding(tape_format::specs::Reader::place_after))]
-pub(crate) fn place_after(tape: &[u8], place: usize) -> usize
-    ensures { result ≡ place_after place (record_at tape.now place) }
-{
-    match read_record(tape, place) {
-        Ok(Some((_, next))) => next,
-        _ => place,
-    }
-}
 
 #[derive(Clone, Copy, Debug, PartialEq, Eq)]
 pub struct Reader<'a> {
@@ -49,12 +37,13 @@ impl<'a> Reader<'a> {
     }
 
     // The reader moved past that record; where it was, at the tape's end and on a refusal.
+    #[tactic(auto, unfolding(tape_format::specs::Reader::place_after))]
     pub fn advance(self) -> Reader<'a>
         ensures { (result.tape ≡ self.entry.tape) × (result.place ≡ place_after self.entry.place (record_at self.entry.tape.now self.entry.place)) }
     {
-        Reader {
-            tape: self.tape,
-            place: place_after(self.tape, self.place),
+        match self.next() {
+            Ok(Some((_, place))) => Reader { place, ..self },
+            _ => self,
         }
     }
 }
