@@ -5,8 +5,9 @@ use native.Mathlib.Omega.{arith}
 use mathlib.Core.Path.{◌≡◌, refl, ap, sym, ◌∙◌}
 use mathlib.Core.List.{List}
 use lib.ListN.{length}
-use Rattle.tape_format.specs.declared.RecordRead.{RecordRead}
-use Rattle.tape_format.specs.declared.RecordRead.TheVariants as read
+use Rattle.std.specs.Prelude.{Option, None, Some, Result, Ok, Err}
+use Rattle.number.specs.declared.Refused.{Refused}
+use Rattle.tape_format.specs.declared.Record.{Record}
 use Rattle.tape_format.specs.Record.{record_at}
 use Rattle.reading.specs.Reading.{and_more, read_on, read_from, read_all}
 use Rattle.reading.proofs.RecordLaws.{record_place}
@@ -16,13 +17,13 @@ unfolding read_from read_on
 one_step zero t at h l = absurd (omega arith)
 one_step (suc n) t at h l = go (record_at t at) refl (λ next. one_step n t next)
   where
-    go : (x : RecordRead) → record_at t at ≡ x → ((next : ℕ) → length t < n + next → next ≤ length t → read_from (suc n) t next ≡ read_from n t next)
+    go : (x : Result (Option (Record × ℕ)) Refused) → record_at t at ≡ x → ((next : ℕ) → length t < n + next → next ≤ length t → read_from (suc n) t next ≡ read_from n t next)
         → read_on at x (read_from (suc n) t) ≡ read_on at x (read_from n t)
-    go (read.Record r next) e more =
+    go (Ok (Some (r, next))) e more =
         let p = record_place t at r next e in
         ap (and_more at r) (more next (omega arith) p.1)
-    go read.Finished e more = refl
-    go (read.Refused number place) e more = refl
+    go (Ok None) e more = refl
+    go (Err r) e more = refl
 
 many_steps : (k : ℕ) (t : List ℕ) → read_from (k + suc (length t)) t 0 ≡ read_all t
 unfolding read_all

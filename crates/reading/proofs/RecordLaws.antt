@@ -4,15 +4,15 @@ use native.Mathlib.Omega.{arith}
 use mathlib.Core.Path.{◌≡◌, refl, ◌∙◌}
 use mathlib.Core.Bool.{true, ◌&&◌}
 use mathlib.Core.List.{List, [], ◌∷◌}
-use mathlib.Core.Option.{Option-elim}
 use lib.Dec.{leb, eqb}
 use lib.ListN.{length}
 use borrow.Author.Tests.{leb-true}
+use Rattle.coherence.specs.declared.Call.{Call}
 use Rattle.coherence.specs.PlainMemory.{plain_accepts}
 use Rattle.number.proofs.NumberLaws.{number_moves}
 use Rattle.tape_format.specs.declared.Record.{Record}
 use Rattle.tape_format.specs.declared.Record.TheVariants as rec
-use Rattle.tape_format.specs.declared.RecordRead.TheVariants as read
+use Rattle.std.specs.Prelude.{Option, None, Some, Ok}
 use Rattle.tape_format.specs.Field.{allowed}
 use Rattle.tape_format.specs.Record.{record_at, kind_of, fields_of, layout_of, store, fits}
 use Rattle.tape_format.specs.Refused.{Reads}
@@ -22,8 +22,6 @@ use Rattle.tape_format.proofs.FieldLaws.{both_true}
 use Rattle.tape_format.proofs.WriteLaws.{valid_load, valid_store, valid_flush}
 use Rattle.tape_format.proofs.LayoutLaws.{record_taken}
 use Rattle.tape_format.proofs.RoundTrip.{moves_on}
-use Rattle.reading.specs.declared.Access.{Access}
-use Rattle.reading.specs.declared.Access.TheVariants.{Asks, Other}
 use Rattle.reading.specs.Reading.{access_of}
 use Rattle.reading.specs.Claims.{PassesOver}
 
@@ -36,12 +34,12 @@ reads_long (n ∷ ns) tape p q w =
     omega arith
 
 -- the call, if there is one, is accepted
-abbrev pub Accepted : Access → Type 0
-Accepted (Asks c) = plain_accepts c ≡ true
-Accepted Other = Unit {0}
+abbrev pub Accepted : Option Call → Type 0
+Accepted (Some c) = plain_accepts c ≡ true
+Accepted None = Unit {0}
 
 pub value_below : (u a v : ℕ) → valid (rec.Store u a v) ≡ true → v < 4294967296
-unfolding valid kind_of fields_of layout_of store fits allowed Option-elim
+unfolding valid kind_of fields_of layout_of store fits allowed
 value_below u a v e =
     let (hu, h) = both_true (leb u 3) ((leb a 2044 && eqb (a % 4) 0) && (leb v 4294967295 && true)) e in
     let (ha, g) = both_true (leb a 2044 && eqb (a % 4) 0) (leb v 4294967295 && true) h in
@@ -76,7 +74,7 @@ passes_over (rec.Register f t a w x b) h = refl
 passes_over (rec.Loaded u v) h = refl
 passes_over (rec.Stamp c) h = refl
 
-module _ (t : List ℕ) (at : ℕ) (r : Record) (next : ℕ) (e : record_at t at ≡ read.Record r next) where
+module _ (t : List ℕ) (at : ℕ) (r : Record) (next : ℕ) (e : record_at t at ≡ Ok (Some (r, next))) where
   pub record_valid : valid r ≡ true
   record_valid = (record_taken t at r next e).1
 

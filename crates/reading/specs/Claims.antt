@@ -1,19 +1,17 @@
 -- What holds of the reading of every tape.
-use Rattle.std.specs.Prelude.{ℕ, ◌<◌, ◌≡◌, true, List, [], ◌∷◌, map, length}
+use Rattle.std.specs.Prelude.{ℕ, ◌<◌, ◌≡◌, true, List, [], ◌∷◌, None, Some, Ok, Err, map, length}
 use Rattle.coherence.specs.declared.Call.{Call}
 use Rattle.coherence.specs.PlainMemory.{plain_accepts}
 use Rattle.tape_format.specs.declared.Record.{Record}
-use Rattle.tape_format.specs.declared.RecordRead.TheVariants as read
 use Rattle.tape_format.specs.Record.{record_at, kind_of}
 use Rattle.tape_format.specs.RoundTrip.{ReadsAs}
-use Rattle.reading.specs.declared.Access.TheVariants.{Other}
 use Rattle.reading.specs.Reading.{Started, Ending, finished, refused, read_from, read_all, access_of, calls_of}
 
 -- from a place on, the tape reads as the records, each from where the one before ended, and then so ends
 unfoldable pub ReadsTo : List ℕ → ℕ → List Started → Ending → Type 0
-ReadsTo tape at [] finished = record_at tape at ≡ read.Finished
-ReadsTo tape at [] (refused number place) = record_at tape at ≡ read.Refused number place
-ReadsTo tape at (s ∷ ss) ending = (s.start ≡ at) × (next : ℕ) × (record_at tape at ≡ read.Record s.item next) × ReadsTo tape next ss ending
+ReadsTo tape at [] finished = record_at tape at ≡ Ok None
+ReadsTo tape at [] (refused e) = record_at tape at ≡ Err e
+ReadsTo tape at (s ∷ ss) ending = (s.start ≡ at) × (next : ℕ) × (record_at tape at ≡ Ok (Some (s.item, next))) × ReadsTo tape next ss ending
 
 unfoldable pub items : List Started → List Record
 items ss = map (λ s. s.item) ss
@@ -25,7 +23,7 @@ AllAccepted (c ∷ cs) = (plain_accepts c ≡ true) × AllAccepted cs
 
 -- "For kinds 0 to 2 it prints a line; other kinds print nothing": a record of another kind asks no call
 unfoldable pub PassesOver : Type 0
-PassesOver = (r : Record) → 2 < kind_of r → access_of r ≡ Other
+PassesOver = (r : Record) → 2 < kind_of r → access_of r ≡ None
 
 pub record Claims (tape : List ℕ) : Type 0 where
   pub reads : ReadsTo tape 0 (read_all tape).records (read_all tape).ending

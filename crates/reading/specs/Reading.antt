@@ -1,25 +1,22 @@
 -- A tape read whole: its records in order, each with the place where it starts, how reading ends, and the calls that the records ask of the machine
 -- (document 01, "Drill").
-use Rattle.std.specs.Prelude.{ℕ, zero, suc, List, [], ◌∷◌, length}
+use Rattle.std.specs.Prelude.{ℕ, zero, suc, List, [], ◌∷◌, Option, None, Some, Result, Ok, Err, length}
+use Rattle.number.specs.declared.Refused.{Refused}
 use Rattle.coherence.specs.declared.Call.{Call}
 use Rattle.coherence.specs.declared.Call.TheVariants as call
 use Rattle.tape_format.specs.declared.Record.{Record}
 use Rattle.tape_format.specs.declared.Record.TheVariants as rec
-use Rattle.tape_format.specs.declared.RecordRead.{RecordRead}
-use Rattle.tape_format.specs.declared.RecordRead.TheVariants as read
 use Rattle.tape_format.specs.Record.{record_at}
-use Rattle.reading.specs.declared.Access.{Access}
-use Rattle.reading.specs.declared.Access.TheVariants as access
 
 -- a record with the place where it starts
 pub record Started : Type 0 where
   pub start : ℕ
   pub item : Record
 
--- at the tape's end, or with the number and the place of a refusal
+-- at the tape's end, or with a refusal
 pub data Ending : Type 0 where
   finished : Ending
-  refused : ℕ → ℕ → Ending
+  refused : Refused → Ending
 
 pub record Reading : Type 0 where
   pub records : List Started
@@ -29,10 +26,10 @@ pub record Reading : Type 0 where
 unfoldable pub and_more : ℕ → Record → Reading → Reading
 and_more start r g = record { records = record { start = start; item = r } ∷ g.records; ending = g.ending }
 
-unfoldable pub read_on : ℕ → RecordRead → (ℕ → Reading) → Reading
-read_on at (read.Record r next) more = and_more at r (more next)
-read_on at read.Finished more = record { records = []; ending = finished }
-read_on at (read.Refused number place) more = record { records = []; ending = refused number place }
+unfoldable pub read_on : ℕ → Result (Option (Record × ℕ)) Refused → (ℕ → Reading) → Reading
+read_on at (Ok (Some (r, next))) more = and_more at r (more next)
+read_on at (Ok None) more = record { records = []; ending = finished }
+read_on at (Err e) more = record { records = []; ending = refused e }
 
 -- what is read from a place on, in at most n steps
 unfoldable pub read_from : ℕ → List ℕ → ℕ → Reading
@@ -44,19 +41,19 @@ unfoldable pub read_all : List ℕ → Reading
 read_all tape = read_from (suc (length tape)) tape 0
 
 -- "For kinds 0 to 2 it prints a line; other kinds print nothing": the call of a record that is a load, a store or a flush
-unfoldable pub access_of : Record → Access
-access_of (rec.Load unit address) = access.Asks (call.Load unit address)
-access_of (rec.Store unit address value) = access.Asks (call.Store unit address value)
-access_of (rec.Flush unit block) = access.Asks (call.Flush unit block)
-access_of (rec.Order o) = access.Other
-access_of (rec.Answer from to aid code) = access.Other
-access_of (rec.Register from to aid write ra bct) = access.Other
-access_of (rec.Loaded unit value) = access.Other
-access_of (rec.Stamp cycles) = access.Other
+unfoldable pub access_of : Record → Option Call
+access_of (rec.Load unit address) = Some (call.Load unit address)
+access_of (rec.Store unit address value) = Some (call.Store unit address value)
+access_of (rec.Flush unit block) = Some (call.Flush unit block)
+access_of (rec.Order o) = None
+access_of (rec.Answer from to aid code) = None
+access_of (rec.Register from to aid write ra bct) = None
+access_of (rec.Loaded unit value) = None
+access_of (rec.Stamp cycles) = None
 
-unfoldable pub and_calls : Access → List Call → List Call
-and_calls (access.Asks c) cs = c ∷ cs
-and_calls access.Other cs = cs
+unfoldable pub and_calls : Option Call → List Call → List Call
+and_calls (Some c) cs = c ∷ cs
+and_calls None cs = cs
 
 -- the calls of the records, in order
 unfoldable pub calls_of : List Started → List Call

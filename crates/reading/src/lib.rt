@@ -7,41 +7,19 @@ ghost use Rattle.reading.specs.Reading.{access_of};
 use coherence::Call;
 use tape_format::Record;
 
-// The call of a record that asks one of the machine.
-#[derive(Clone, Copy)]
-pub enum Access {
-    Asks(Call),
-    Other,
-}
-
 // The call that a record asks, if it is an access.
-pub fn access_of(item: Record) -> Access
+#[tactic(auto, unfolding(crate::specs::Reading::access_of))]
+pub fn access_of(item: Record) -> Option<Call>
     ensures { result ≡ access_of item }
 {
     match item {
-        Record::Load(unit, address) => Access::Asks(Call::Load { unit, address }),
-        Record::Store(unit, address, value) => Access::Asks(Call::Store {
+        Record::Load(unit, address) => Some(Call::Load { unit, address }),
+        Record::Store(unit, address, value) => Some(Call::Store {
             unit,
             address,
             value,
         }),
-        Record::Flush(unit, block) => Access::Asks(Call::Flush { unit, block }),
-        Record::Order(_) => Access::Other,
-        Record::Answer {
-            from: _,
-            to: _,
-            aid: _,
-            code: _,
-        } => Access::Other,
-        Record::Register {
-            from: _,
-            to: _,
-            aid: _,
-            write: _,
-            ra: _,
-            bct: _,
-        } => Access::Other,
-        Record::Loaded(_, _) => Access::Other,
-        Record::Stamp(_) => Access::Other,
+        Record::Flush(unit, block) => Some(Call::Flush { unit, block }),
+        _ => None,
     }
 }

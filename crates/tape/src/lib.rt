@@ -6,7 +6,6 @@ ghost use Rattle.std.specs.Prelude.{◌≡◌};
 ghost use Rattle.tape_format.specs.Record.{fields_at, load, store, flush, answer, register, loaded, stamp, kind_at, record_at};
 
 pub use number::Refused;
-
 use number::read_number;
 use order::{Command, Order, Refusal};
 use tape_field::field;
