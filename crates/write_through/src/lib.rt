@@ -5,11 +5,11 @@ ghost use Rattle.std.specs.Prelude.{◌≡◌, false};
 ghost use Rattle.order.specs.declared.Command.TheVariants.{MemoryWrite};
 ghost use Rattle.coherence.specs.Slots.{owner_of};
 ghost use Rattle.coherence.specs.Calls.{packed};
-ghost use Rattle.orders.specs.Orders.{ask_orders, answer_of};
+ghost use Rattle.orders.specs.Orders.{ask_orders, accepted_answer};
 ghost use Rattle.write_through.specs.Through.{through_left, through_memory, through_cache};
 
 use blocks::{put_word, put_word_if, yield_bytes};
-use coherence::{Answer, Directory};
+use coherence::{Accepted, Directory};
 use holder_sets::through_sets;
 use order::Command;
 use orders::{accepted, ask_orders};
@@ -24,12 +24,14 @@ pub fn store_through(
     block: u8,
     address: u32,
     value: u32,
-) -> Answer
-    ensures { (result ≡ answer_of 0 0 (packed (ask_orders false unit MemoryWrite block (owner_of directory block))) (through_left unit block directory)) × (memory.new ≡ through_memory block address value directory memory.old cache.old) × (cache.new ≡ through_cache unit block address value directory cache.old) }
+) -> Accepted
+    ensures { (result ≡ accepted_answer 0 (packed (ask_orders false unit MemoryWrite block (owner_of directory block))) (through_left unit block directory)) × (memory.new ≡ through_memory block address value directory memory.old cache.old) × (cache.new ≡ through_cache unit block address value directory cache.old) }
 {
-    let slots = directory.slots;
-    let settings = directory.settings;
-    let holders = directory.holders;
+    let Directory {
+        slots,
+        settings,
+        holders,
+    } = directory;
     let holder = owner(slots, block);
     yield_bytes(holder, memory, cache, block);
     put_word(memory, address, value);
