@@ -52,32 +52,32 @@ numbered_back Unreadable = refl
 refusal_one : (x y : Refusal) → refusal_number x ≡ refusal_number y → x ≡ y
 refusal_one x y e = sym (numbered_back x) ∙ ap numbered e ∙ numbered_back y
 
-numbers_one : (x : Refusal) → 1 ≤ refusal_number x
-numbers_one WrongSize = omega arith
-numbers_one BrokenDirectory = omega arith
-numbers_one NoUnit = omega arith
-numbers_one BadAddress = omega arith
-numbers_one Cut = omega arith
-numbers_one BadNumber = omega arith
-numbers_one UnknownKind = omega arith
-numbers_one FieldRange = omega arith
-numbers_one NoRoom = omega arith
-numbers_one BadState = omega arith
-numbers_one OtherSource = omega arith
-numbers_one OutOfTurn = omega arith
-numbers_one HalvesDiffer = omega arith
-numbers_one Unreadable = omega arith
+pub number_pos : (x : Refusal) → 1 ≤ refusal_number x
+number_pos WrongSize = omega arith
+number_pos BrokenDirectory = omega arith
+number_pos NoUnit = omega arith
+number_pos BadAddress = omega arith
+number_pos Cut = omega arith
+number_pos BadNumber = omega arith
+number_pos UnknownKind = omega arith
+number_pos FieldRange = omega arith
+number_pos NoRoom = omega arith
+number_pos BadState = omega arith
+number_pos OtherSource = omega arith
+number_pos OutOfTurn = omega arith
+number_pos HalvesDiffer = omega arith
+number_pos Unreadable = omega arith
 
 call_one : (d : Directory) (r s : Result Accepted Refusal) → told d r ≡ told d s → r ≡ s
 call_one d (Ok a) (Ok b) e = ap (λ (x : Answer). Ok (record { value = x.value; orders = x.orders; directory = x.directory })) e
-call_one d (Ok a) (Err y) e = absurd (omega (arith, numbers_one y, ap (λ (x : Answer). x.refusal) e))
-call_one d (Err x) (Ok b) e = absurd (omega (arith, numbers_one x, ap (λ (z : Answer). z.refusal) e))
+call_one d (Ok a) (Err y) e = absurd (omega (arith, number_pos y, ap (λ (x : Answer). x.refusal) e))
+call_one d (Err x) (Ok b) e = absurd (omega (arith, number_pos x, ap (λ (z : Answer). z.refusal) e))
 call_one d (Err x) (Err y) e = ap Err (refusal_one x y (ap (λ (z : Answer). z.refusal) e))
 
 start_one : (g : Settings) (r s : Result Directory Refusal) → started g r ≡ started g s → r ≡ s
 start_one g (Ok a) (Ok b) e = ap Ok (ap (λ (x : Start). x.directory) e)
-start_one g (Ok a) (Err y) e = absurd (omega (arith, numbers_one y, ap (λ (x : Start). x.refusal) e))
-start_one g (Err x) (Ok b) e = absurd (omega (arith, numbers_one x, ap (λ (z : Start). z.refusal) e))
+start_one g (Ok a) (Err y) e = absurd (omega (arith, number_pos y, ap (λ (x : Start). x.refusal) e))
+start_one g (Err x) (Ok b) e = absurd (omega (arith, number_pos x, ap (λ (z : Start). z.refusal) e))
 start_one g (Err x) (Err y) e = ap Err (refusal_one x y (ap (λ (z : Start). z.refusal) e))
 
 pub tells_apart : TellsApart

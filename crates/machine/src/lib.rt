@@ -1,18 +1,20 @@
 // The cache machine: cold start, loads, stores and flushes. Each call tests its inputs, and answers and leaves what the
 // definitions of `coherence` say, for every input. A call takes slots, settings and sets of holders apart,
 // and its answer puts them together.
+// Directory and stores stand apart in each signature: C lends `trainer_load`, `trainer_store` and `trainer_flush` the stores as slices of any length, and
+// the clauses name each store as it was and as it is left.
 #![tactic(auto)]
 
 ghost use Rattle.std.specs.Prelude.{◌≡◌};
 ghost use Rattle.coherence.specs.declared.Call.TheVariants.{Load, Store, Flush};
-ghost use Rattle.coherence.specs.Calls.{answer, memory_after, cache_after, start_answer, cache_started};
+ghost use Rattle.coherence.specs.Calls.{answer, memory_after, cache_after, start_answer, cache_started, told, started};
 
 use blocks::{clear, evict_bytes, fetch_bytes, put_word, word_at};
-use coherence::{Answer, Call, Directory, Settings, Slot, Start};
+use coherence::{Accepted, Call, Directory, Settings, Slot};
 use holder_sets::{claimed_sets, fetched_sets, flushed_sets};
-use order::{Command, WRONG_SIZE};
-use orders::{accepted, eviction_orders, fetch_orders, no_orders, one_order, refused};
-use refusal::{is_address, is_sized, refusal_of};
+use order::{Command, Refusal};
+use orders::{accepted, eviction_orders, fetch_orders, no_orders, one_order};
+use refusal::{check_call, is_address, is_sized};
 use slots::{
     cache_place, claimed, cold_directory, fetched, has_modified, holds_block, is_through, owner,
     place_of, set_slot, slot_at,
@@ -20,22 +22,14 @@ use slots::{
 use write_through::store_through;
 
 // All slots invalid and all sets of holders empty, with the chosen settings, and the cache store all zeros. Refused, it leaves the cache store as it was.
-pub fn cold_start(settings: Settings, memory: &[u8], cache: &mut [u8]) -> Start
-    ensures { (result ≡ start_answer settings memory.now cache.old) × (cache.new ≡ cache_started memory.now cache.old) }
+pub fn cold_start(settings: Settings, memory: &[u8], cache: &mut [u8]) -> Result<Directory, Refusal>
+    ensures { (started settings result ≡ start_answer settings memory.now cache.old) × (cache.new ≡ cache_started memory.now cache.old) }
 {
-    let directory = cold_directory(settings);
-    if is_sized(memory, cache) {
-        clear(cache);
-        Start {
-            refusal: 0,
-            directory,
-        }
-    } else {
-        Start {
-            refusal: WRONG_SIZE,
-            directory,
-        }
+    if !is_sized(memory, cache) {
+        return Err(Refusal::WrongSize);
     }
+    clear(cache);
+    Ok(cold_directory(settings))
 }
 
 // A load. A refused one leaves all as it was.
@@ -45,33 +39,30 @@ pub fn load(
     cache: &mut [u8],
     unit: u8,
     address: u32,
-) -> Answer
-    ensures { (result ≡ answer directory memory.old cache.old (Load unit address)) × (memory.new ≡ memory_after directory memory.old cache.old (Load unit address)) × (cache.new ≡ cache_after directory memory.old cache.old (Load unit address)) }
+) -> Result<Accepted, Refusal>
+    ensures { (told directory result ≡ answer directory memory.old cache.old (Load unit address)) × (memory.new ≡ memory_after directory memory.old cache.old (Load unit address)) × (cache.new ≡ cache_after directory memory.old cache.old (Load unit address)) }
 {
-    let refusal = refusal_of(directory, memory, cache, unit, is_address(address));
-    if refusal != 0 {
-        return refused(refusal, directory);
-    }
-    let slots = directory.slots;
-    let settings = directory.settings;
-    let holders = directory.holders;
+    check_call(directory, memory, cache, unit, is_address(address))?;
+    let Directory {
+        slots,
+        settings,
+        holders,
+    } = directory;
     let block = (address / 32) as u8;
     let n = place_of(unit, block);
     let slot = slot_at(slots, n);
     let at = cache_place(unit, address);
     if holds_block(slot, block) {
         let value = word_at(cache, at);
-        let orders = no_orders();
-        accepted(value, orders, slots, settings, holders)
-    } else {
-        let holder = owner(slots, block);
-        fetch_bytes(slot, holder, memory, cache, n, block);
-        let value = word_at(cache, at);
-        let orders = fetch_orders(settings.steal, slot, holder, unit, Command::Read, block);
-        let left = fetched(slots, n, holder, block);
-        let sets = fetched_sets(holders, slot, unit, block);
-        accepted(value, orders, left, settings, sets)
+        return Ok(accepted(value, no_orders(), slots, settings, holders));
     }
+    let holder = owner(slots, block);
+    fetch_bytes(slot, holder, memory, cache, n, block);
+    let value = word_at(cache, at);
+    let orders = fetch_orders(settings.steal, slot, holder, unit, Command::Read, block);
+    let left = fetched(slots, n, holder, block);
+    let sets = fetched_sets(holders, slot, unit, block);
+    Ok(accepted(value, orders, left, settings, sets))
 }
 
 // A store. A refused one leaves all as it was.
@@ -82,79 +73,83 @@ pub fn store(
     unit: u8,
     address: u32,
     value: u32,
-) -> Answer
-    ensures { (result ≡ answer directory memory.old cache.old (Store unit address value)) × (memory.new ≡ memory_after directory memory.old cache.old (Store unit address value)) × (cache.new ≡ cache_after directory memory.old cache.old (Store unit address value)) }
+) -> Result<Accepted, Refusal>
+    ensures { (told directory result ≡ answer directory memory.old cache.old (Store unit address value)) × (memory.new ≡ memory_after directory memory.old cache.old (Store unit address value)) × (cache.new ≡ cache_after directory memory.old cache.old (Store unit address value)) }
 {
-    let refusal = refusal_of(directory, memory, cache, unit, is_address(address));
-    if refusal != 0 {
-        return refused(refusal, directory);
-    }
-    let slots = directory.slots;
-    let settings = directory.settings;
-    let holders = directory.holders;
+    check_call(directory, memory, cache, unit, is_address(address))?;
+    let Directory {
+        slots,
+        settings,
+        holders,
+    } = directory;
     let block = (address / 32) as u8;
     if is_through(settings, unit) {
-        return store_through(directory, memory, cache, unit, block, address, value);
+        return Ok(store_through(directory, memory, cache, unit, block, address, value));
     }
     let n = place_of(unit, block);
     let slot = slot_at(slots, n);
     let at = cache_place(unit, address);
     if has_modified(slot, block) {
         put_word(cache, at, value);
-        let orders = no_orders();
-        accepted(0, orders, slots, settings, holders)
-    } else if holds_block(slot, block) {
+        return Ok(accepted(0, no_orders(), slots, settings, holders));
+    }
+    let left = claimed(slots, unit, block);
+    let sets = claimed_sets(holders, slot, unit, block);
+    if holds_block(slot, block) {
         put_word(cache, at, value);
         let orders = one_order(unit, Command::Invalidate, block);
-        let left = claimed(slots, unit, block);
-        let sets = claimed_sets(holders, slot, unit, block);
-        accepted(0, orders, left, settings, sets)
-    } else {
-        let holder = owner(slots, block);
-        fetch_bytes(slot, holder, memory, cache, n, block);
-        put_word(cache, at, value);
-        let orders = fetch_orders(
-            settings.steal,
-            slot,
-            holder,
-            unit,
-            Command::ModifiedRead,
-            block,
-        );
-        let left = claimed(slots, unit, block);
-        let sets = claimed_sets(holders, slot, unit, block);
-        accepted(0, orders, left, settings, sets)
+        return Ok(accepted(0, orders, left, settings, sets));
     }
+    let holder = owner(slots, block);
+    fetch_bytes(slot, holder, memory, cache, n, block);
+    put_word(cache, at, value);
+    let orders = fetch_orders(
+        settings.steal,
+        slot,
+        holder,
+        unit,
+        Command::ModifiedRead,
+        block,
+    );
+    Ok(accepted(0, orders, left, settings, sets))
 }
 
 // A flush: the block leaves the unit's cache, after a copyback where it is EM. A refused one leaves all as it was.
-pub fn flush(directory: Directory, memory: &mut [u8], cache: &[u8], unit: u8, block: u8) -> Answer
-    ensures { (result ≡ answer directory memory.old cache.now (Flush unit block)) × (memory.new ≡ memory_after directory memory.old cache.now (Flush unit block)) × (cache.now ≡ cache_after directory memory.old cache.now (Flush unit block)) }
+pub fn flush(
+    directory: Directory,
+    memory: &mut [u8],
+    cache: &[u8],
+    unit: u8,
+    block: u8,
+) -> Result<Accepted, Refusal>
+    ensures { (told directory result ≡ answer directory memory.old cache.now (Flush unit block)) × (memory.new ≡ memory_after directory memory.old cache.now (Flush unit block)) × (cache.now ≡ cache_after directory memory.old cache.now (Flush unit block)) }
 {
-    let refusal = refusal_of(directory, memory, cache, unit, block <= 63);
-    if refusal != 0 {
-        return refused(refusal, directory);
-    }
-    let slots = directory.slots;
-    let settings = directory.settings;
-    let holders = directory.holders;
+    check_call(directory, memory, cache, unit, block <= 63)?;
+    let Directory {
+        slots,
+        settings,
+        holders,
+    } = directory;
     let n = place_of(unit, block);
     let slot = slot_at(slots, n);
-    if holds_block(slot, block) {
-        evict_bytes(slot, memory, cache, n);
-        let orders = eviction_orders(slot, unit);
-        let left = set_slot(slots, n, Slot::Invalid);
-        let sets = flushed_sets(holders, unit, block);
-        accepted(0, orders, left, settings, sets)
-    } else {
-        let orders = no_orders();
-        accepted(0, orders, slots, settings, holders)
+    if !holds_block(slot, block) {
+        return Ok(accepted(0, no_orders(), slots, settings, holders));
     }
+    evict_bytes(slot, memory, cache, n);
+    let orders = eviction_orders(slot, unit);
+    let left = set_slot(slots, n, Slot::Invalid);
+    let sets = flushed_sets(holders, unit, block);
+    Ok(accepted(0, orders, left, settings, sets))
 }
 
 // One access, given as a value.
-pub fn run(directory: Directory, memory: &mut [u8], cache: &mut [u8], call: Call) -> Answer
-    ensures { (result ≡ answer directory memory.old cache.old call) × (memory.new ≡ memory_after directory memory.old cache.old call) × (cache.new ≡ cache_after directory memory.old cache.old call) }
+pub fn run(
+    directory: Directory,
+    memory: &mut [u8],
+    cache: &mut [u8],
+    call: Call,
+) -> Result<Accepted, Refusal>
+    ensures { (told directory result ≡ answer directory memory.old cache.old call) × (memory.new ≡ memory_after directory memory.old cache.old call) × (cache.new ≡ cache_after directory memory.old cache.old call) }
 {
     match call {
         Call::Load { unit, address } => load(directory, memory, cache, unit, address),

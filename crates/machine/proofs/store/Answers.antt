@@ -1,6 +1,7 @@
 use Rattle.machine.proofs.SetLaws.{whole, settled, unchanged, through_kept, shared_sets, missed_sets}
 use native.Mathlib.Omega.{arith}
 use mathlib.Core.Path.{refl, sym, ◌∙◌}
+use Rattle.std.proofs.lemmas.Result.{err_from_is_err_and}
 use Rattle.coherence.specs.Calls.{unit_of, is_target, refusal, act, loaded}
 use Rattle.coherence.specs.declared.Call.TheVariants.{Store}
 use Rattle.machine.proofs.Refusals.{known, address_of}
@@ -11,25 +12,24 @@ use Rattle.slots.proofs.OfSlots.{of_slot, of_owner, of_claimed}
 use borrow.Author.Rules.{rules}
 use Rattle.machine.proofs.store.Goals as goal
 
-pub returns-then-refusal-ne0 : goal.returns-then-refusal-ne0
+pub returns-in_err-check_call : goal.returns-in_err-check_call
 unfolding refusal unit_of is_target
-returns-then-refusal-ne0 c =
-    let a = c.args in
-    let e = rw c.is_address.ensures at c.refusal_of-refusal.ensures in
-    refuses _ _ _ (Store a.unit a.address a.value) e c.if-refusal-ne0.true c.refused.ensures
+returns-in_err-check_call c =
+    let p = err_from_is_err_and c.from_residual.result c.from_residual.ensures.1 in
+    let e = rw c.is_address.ensures at (c.in_err-check_call.ensures) in
+    rw (p.1, p.2) (refuses _ _ _ (Store c.args.unit c.args.address c.args.value) _ e)
 
 pub overflow_cast-block : goal.overflow_cast-block
 overflow_cast-block c =
-    let e = rw c.is_address.ensures at c.refusal_of-refusal.ensures in
-    let h = known _ _ _ _ _ (sym e ∙ c.if-refusal-ne0.false) in
+    let e = rw c.is_address.ensures at (c.in_ok-check_call.ensures) in
+    let h = known _ _ _ _ _ (sym e) in
     omega (arith, (address_of _ h.target).1)
 
 pub returns-then-is_through : goal.returns-then-is_through
 unfolding refusal unit_of is_target act loaded
 returns-then-is_through c =
     let a = c.args in
-    let e = rw c.is_address.ensures at c.refusal_of-refusal.ensures in
-    let z = sym e ∙ c.if-refusal-ne0.false in
+    let z = sym (rw c.is_address.ensures at (c.in_ok-check_call.ensures)) in
     let q = known _ _ _ _ _ z in
     let t = sym c.is_through.ensures ∙ c.if-is_through.true in
     let x = c.store_through.ensures in
@@ -40,21 +40,19 @@ pub returns-then-has_modified : goal.returns-then-has_modified
 unfolding refusal unit_of is_target act loaded
 returns-then-has_modified c =
     let a = c.args in
-    let e = rw c.is_address.ensures at c.refusal_of-refusal.ensures in
-    let z = sym e ∙ c.if-refusal-ne0.false in
+    let z = sym (rw c.is_address.ensures at (c.in_ok-check_call.ensures)) in
     let q = known _ _ _ _ _ z in
     let t = sym c.is_through.ensures ∙ c.if-is_through.false in
     let s = (rw c.place_of-n.ensures at c.slot_at-slot.ensures) ∙ of_slot a.directory _ in
     let g = sym (rw s at c.has_modified.ensures) ∙ c.if-has_modified.true in
-    comes_to _ _ _ (Store _ _ _) z (store_owned _ _ _ _ _ _ q t g) c.accepted.ensures refl c.no_orders-orders.ensures (unchanged _ _ _ _ _ q (search rules)) refl
+    comes_to _ _ _ (Store _ _ _) z (store_owned _ _ _ _ _ _ q t g) c.accepted.ensures refl c.no_orders.ensures (unchanged _ _ _ _ _ q (search rules)) refl
     (rw c.cache_place-at.ensures at c.put_word.ensures)
 
 pub returns-then-holds_block : goal.returns-then-holds_block
 unfolding refusal unit_of is_target act loaded
 returns-then-holds_block c =
     let a = c.args in
-    let e = rw c.is_address.ensures at c.refusal_of-refusal.ensures in
-    let z = sym e ∙ c.if-refusal-ne0.false in
+    let z = sym (rw c.is_address.ensures at (c.in_ok-check_call.ensures)) in
     let q = known _ _ _ _ _ z in
     let t = sym c.is_through.ensures ∙ c.if-is_through.false in
     let s = (rw c.place_of-n.ensures at c.slot_at-slot.ensures) ∙ of_slot a.directory _ in
@@ -65,12 +63,11 @@ returns-then-holds_block c =
     comes_to _ _ _ (Store _ _ _) z x c.accepted-then-holds_block.ensures refl c.one_order-orders.ensures (settled a.directory (of_claimed a.directory _ _ c.claimed-left.ensures) y) refl
     (rw c.cache_place-at.ensures at c.put_word-then-holds_block.ensures)
 
-pub returns-else-holds_block : goal.returns-else-holds_block
+pub returns : goal.returns
 unfolding refusal unit_of is_target act loaded
-returns-else-holds_block c =
+returns c =
     let a = c.args in
-    let e = rw c.is_address.ensures at c.refusal_of-refusal.ensures in
-    let z = sym e ∙ c.if-refusal-ne0.false in
+    let z = sym (rw c.is_address.ensures at (c.in_ok-check_call.ensures)) in
     let q = known _ _ _ _ _ z in
     let n = c.place_of-n.ensures in
     let t = sym c.is_through.ensures ∙ c.if-is_through.false in
@@ -80,6 +77,6 @@ returns-else-holds_block c =
     let v = c.owner-holder.ensures ∙ of_owner a.directory _ in
     let f = rw (s, n, v) at c.fetch_bytes.ensures in
     let x = store_missed_lem _ _ _ _ _ _ q (whole a.directory (search (rules, length_mapped))) t g h in
-    let y = (rw s at c.claimed_sets-sets-else-holds_block.ensures) ∙ missed_sets _ _ _ (whole a.directory (search (rules, length_mapped))) (search rules) _ _ q _ z x t h in
-    comes_to _ _ _ (Store _ _ _) z x c.accepted-else-holds_block.ensures refl (rw (s, v) at c.fetch_orders-orders.ensures)
-    (settled a.directory (of_claimed a.directory _ _ c.claimed-left-else-holds_block.ensures) y) f.0 (rw (f.1, c.cache_place-at.ensures) at c.put_word-else-holds_block.ensures)
+    let y = (rw s at c.claimed_sets-sets.ensures) ∙ missed_sets _ _ _ (whole a.directory (search (rules, length_mapped))) (search rules) _ _ q _ z x t h in
+    comes_to _ _ _ (Store _ _ _) z x c.accepted-2.ensures refl (rw (s, v) at c.fetch_orders-orders.ensures)
+    (settled a.directory (of_claimed a.directory _ _ c.claimed-left.ensures) y) f.0 (rw (f.1, c.cache_place-at.ensures) at c.put_word-2.ensures)
