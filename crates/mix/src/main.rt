@@ -2,7 +2,6 @@
 // which is compared with that of the second implementation in `outside/`.
 #![tactic(auto)]
 
-use coherence::{Answer, Directory};
 use slots::drill_settings;
 use std::io;
 
@@ -11,37 +10,30 @@ fn step(x: u32) -> u32 {
     (x % 65536) * 60000 + (x / 65536) + 1
 }
 
-// The access that a number stands for.
-fn turn(d: Directory, memory: &mut [u8], cache: &mut [u8], x: u32) -> Answer {
-    let unit = (x / 7 % 4) as u8;
-    let address = (x / 32 % 512) * 4;
-    let kind = x / 65536 % 8;
-    if kind < 4 {
-        machine::load(d, memory, cache, unit, address)
-    } else {
-        machine::store(d, memory, cache, unit, address, x)
-    }
-}
-
-fn run(memory: &mut [u8], cache: &mut [u8]) -> u32 {
-    let started = machine::cold_start(drill_settings(), memory, cache);
-    let mut d = started.directory;
+// None if a call is refused.
+fn run(memory: &mut [u8], cache: &mut [u8]) -> Option<u32> {
+    let mut d = machine::cold_start(drill_settings(), memory, cache).ok()?;
     let mut sum: u32 = 0;
     let mut x: u32 = 12345;
-    let mut i: u32 = 0;
-    while i < 5000000 {
+    for _ in 0..5_000_000 {
         x = step(x);
-        let a = turn(d, memory, cache, x);
+        let unit = (x / 7 % 4) as u8;
+        let address = (x / 32 % 512) * 4;
+        let answer = if x / 65536 % 8 < 4 {
+            machine::load(d, memory, cache, unit, address)
+        } else {
+            machine::store(d, memory, cache, unit, address, x)
+        };
+        let a = answer.ok()?;
         sum = (sum % 65536) + (a.value % 65536);
         d = a.directory;
-        i += 1;
     }
-    sum
+    Some(sum)
 }
 
 fn main(rt: HostRuntime) -> io::Result<()> {
     let mut memory = [0u8; 2048];
     let mut cache = [0u8; 2048];
-    let sum = run(&mut memory, &mut cache);
+    let sum = run(&mut memory, &mut cache).unwrap_or(0);
     print!(rt; "{sum}")
 }
