@@ -1,67 +1,76 @@
 // Writing records, and how many bytes one takes (document 01, "The tape"; document 02, T-04 and T-06).
 #![tactic(auto)]
 
-ghost use Rattle.std.specs.Prelude.{◌≡◌, ◌∷◌, length};
+ghost use Rattle.std.specs.Prelude.{◌≡◌, ◌∷◌, ◌≤◌, Result, Ok, Err, cond, length, take};
+ghost use Rattle.order.specs.declared.Refusal.TheVariants.{FieldRange};
 ghost use Rattle.tape_format.specs.Record.{kind_of, fields_of};
 ghost use Rattle.tape_writer.specs.Numbers.{padded};
-ghost use Rattle.tape_format.specs.Write.{written_of, space_after};
+ghost use Rattle.tape_format.specs.Write.{valid, written_of, space_after};
 ghost use Rattle.tape_format.specs.Size.{size_told};
 
 use number_writer::{numbers_size, write_numbers};
-use order::{FIELD_RANGE, NO_ROOM, command_number, flag_number};
+use order::{Order, Refusal};
 use tape_field::allows;
-use tape_format::{Record, Rule, Written};
+use tape_format::{Record, Rule};
 
-// The numbers that a record is spelled as: the first `count` of `values`.
+// The numbers that a record is spelled as: the first `count` of `values`, and 0 behind them. With no heap there is no list of their own length, and the C function
+// `trainer_read_record` puts all seven.
 #[derive(Clone, Copy)]
 pub struct Numbers {
     pub count: usize,
     pub values: [u64; 7],
 }
 
-// The numbers of a record: its kind and its fields, and 0 behind them.
+impl Numbers {
+    #[tactic(auto, using(crate::proofs::NumbersLaws::padded_part))]
+    fn new<const N: usize>(numbers: [u64; N]) -> Numbers
+        requires { N ≤ 7 }
+        ensures { (result.count ≡ N) × (result.values ≡ padded numbers.entry) }
+    {
+        let mut values = [0; 7];
+        values[..N].copy_from_slice(&numbers);
+        Numbers { count: N, values }
+    }
+
+    fn as_slice(&self) -> &[u64]
+        requires { self.now.count ≤ 7 }
+        ensures { result.now ≡ take self.now.count self.now.values }
+    {
+        &self.values[..self.count]
+    }
+}
+
+// The numbers of a record: its kind and its fields.
+#[tactic(auto, unfolding(tape_format::specs::Record::kind_of, tape_format::specs::Record::fields_of), using(order::proofs::FlagLaws::flag_from_bool))]
 pub fn numbers_of(item: Record) -> Numbers
     ensures { (result.count ≡ length (kind_of item ∷ fields_of item)) × (result.values ≡ padded (kind_of item ∷ fields_of item)) }
 {
     match item {
-        Record::Load(u, a) => Numbers {
-            count: 3,
-            values: [0, u as u64, a as u64, 0, 0, 0, 0],
-        },
-        Record::Store(u, a, v) => Numbers {
-            count: 4,
-            values: [1, u as u64, a as u64, v as u64, 0, 0, 0],
-        },
-        Record::Flush(u, b) => Numbers {
-            count: 3,
-            values: [2, u as u64, b as u64, 0, 0, 0, 0],
-        },
-        Record::Order(order) => {
-            let command = order.command;
-            let number = command_number(command);
-            let retried = flag_number(order.retried);
-            Numbers {
-                count: 5,
-                values: [
-                    3,
-                    order.unit as u64,
-                    number as u64,
-                    order.block as u64,
-                    retried,
-                    0,
-                    0,
-                ],
-            }
+        Record::Load(unit, address) => Numbers::new([0, unit.into(), address.into()]),
+        Record::Store(unit, address, value) => {
+            Numbers::new([1, unit.into(), address.into(), value.into()])
         }
+        Record::Flush(unit, block) => Numbers::new([2, unit.into(), block.into()]),
+        Record::Order(
+            Order {
+                unit,
+                command,
+                block,
+                retried,
+            },
+        ) => Numbers::new([
+            3,
+            unit.into(),
+            u8::from(command).into(),
+            block.into(),
+            retried.into(),
+        ]),
         Record::Answer {
             from,
             to,
             aid,
             code,
-        } => Numbers {
-            count: 5,
-            values: [4, from as u64, to as u64, aid as u64, code as u64, 0, 0],
-        },
+        } => Numbers::new([4, from.into(), to.into(), aid.into(), code.into()]),
         Record::Register {
             from,
             to,
@@ -69,96 +78,84 @@ pub fn numbers_of(item: Record) -> Numbers
             write,
             ra,
             bct,
-        } => {
-            let flag = flag_number(write);
-            Numbers {
-                count: 7,
-                values: [
-                    5,
-                    from as u64,
-                    to as u64,
-                    aid as u64,
-                    flag,
-                    ra as u64,
-                    bct as u64,
-                ],
-            }
-        }
-        Record::Loaded(u, v) => Numbers {
-            count: 3,
-            values: [6, u as u64, v as u64, 0, 0, 0, 0],
-        },
-        Record::Stamp(c) => Numbers {
-            count: 2,
-            values: [8, c, 0, 0, 0, 0, 0],
-        },
+        } => Numbers::new([
+            5,
+            from.into(),
+            to.into(),
+            aid.into(),
+            write.into(),
+            ra.into(),
+            bct.into(),
+        ]),
+        Record::Loaded(unit, value) => Numbers::new([6, unit.into(), value.into()]),
+        Record::Stamp(cycles) => Numbers::new([8, cycles]),
     }
 }
 
 // Every field is in its range. Those that a byte or 32 bits hold whole need no test; the test of a stamp is always passed, and gives the proof its range.
+#[tactic(auto, using(tape_format::proofs::WriteLaws::valid_load, tape_format::proofs::WriteLaws::valid_store, tape_format::proofs::WriteLaws::valid_flush, tape_format::proofs::WriteLaws::valid_order, tape_format::proofs::WriteLaws::valid_answer, tape_format::proofs::WriteLaws::valid_register, tape_format::proofs::WriteLaws::valid_loaded, tape_format::proofs::WriteLaws::valid_stamp, order::proofs::FlagLaws::flag_from_bool))]
 fn valid(item: Record) -> bool
-    ensures { result ≡ Rattle.tape_format.specs.Write.valid item }
+    ensures { result ≡ valid item }
 {
     match item {
-        Record::Load(u, a) => allows(Rule::Unit, u as u64) & allows(Rule::Address, a as u64),
-        Record::Store(u, a, _) => allows(Rule::Unit, u as u64) & allows(Rule::Address, a as u64),
-        Record::Flush(u, b) => allows(Rule::Unit, u as u64) & allows(Rule::Block, b as u64),
-        Record::Order(order) => {
-            let command = order.command;
-            let retried = flag_number(order.retried);
-            allows(Rule::Unit, order.unit as u64)
-                & (allows(Rule::Block, order.block as u64)
-                    & allows(Rule::Retried(command), retried))
+        Record::Load(unit, address) | Record::Store(unit, address, _) => {
+            allows(Rule::Unit, unit.into()) & allows(Rule::Address, address.into())
         }
-        Record::Answer {
-            from,
-            to,
-            aid: _,
-            code: _,
-        } => allows(Rule::From, from as u64) & allows(Rule::To(from as u64), to as u64),
-        Record::Register {
-            from,
-            to,
-            aid: _,
-            write: _,
-            ra: _,
-            bct,
-        } => {
-            (allows(Rule::From, from as u64) & allows(Rule::To(from as u64), to as u64))
-                & allows(Rule::Bct, bct as u64)
+        Record::Flush(unit, block) => {
+            allows(Rule::Unit, unit.into()) & allows(Rule::Block, block.into())
         }
-        Record::Loaded(u, _) => allows(Rule::Unit, u as u64),
-        Record::Stamp(c) => allows(Rule::Cycles, c),
+        Record::Order(
+            Order {
+                unit,
+                command,
+                block,
+                retried,
+            },
+        ) => {
+            allows(Rule::Unit, unit.into())
+                & (allows(Rule::Block, block.into())
+                    & allows(Rule::Retried(command), retried.into()))
+        }
+        Record::Answer { from, to, .. } => {
+            allows(Rule::From, from.into()) & allows(Rule::To(from.into()), to.into())
+        }
+        Record::Register { from, to, bct, .. } => {
+            (allows(Rule::From, from.into()) & allows(Rule::To(from.into()), to.into()))
+                & allows(Rule::Bct, bct.into())
+        }
+        Record::Loaded(unit, _) => allows(Rule::Unit, unit.into()),
+        Record::Stamp(cycles) => allows(Rule::Cycles, cycles),
+    }
+}
+
+fn check(item: Record) -> Result<(), Refusal>
+    ensures { result ≡ cond (valid item) (Ok tt) (Err FieldRange) }
+{
+    if valid(item) {
+        Ok(())
+    } else {
+        Err(Refusal::FieldRange)
     }
 }
 
 // How many bytes a record takes: the least space that `write_record` accepts.
-pub fn record_size(item: Record) -> Written
+#[tactic(auto, unfolding(tape_format::specs::Size::size_told, tape_format::specs::Size::record_size), using(crate::proofs::NumbersLaws::few))]
+pub fn record_size(item: Record) -> Result<usize, Refusal>
     ensures { result ≡ size_told item }
 {
-    if !valid(item) {
-        return Written::Refused(FIELD_RANGE);
-    }
-    let numbers = numbers_of(item);
-    let count = numbers.count;
-    let values = numbers.values;
-    Written::Bytes(numbers_size(&values[..count]))
+    check(item)?;
+    Ok(numbers_size(numbers_of(item).as_slice()))
 }
 
 // Writes a record at the start of `out`.
-pub fn write_record(item: Record, out: &mut [u8]) -> Written
+#[tactic(auto, unfolding(tape_format::specs::Write::written_of, tape_format::specs::Write::space_after, tape_format::specs::Write::bytes_of), using(crate::proofs::NumbersLaws::few))]
+pub fn write_record(item: Record, out: &mut [u8]) -> Result<usize, Refusal>
     ensures { (result ≡ written_of item (length out.old)) × (out.new ≡ space_after item out.old) }
 {
-    if valid(item) {
-        let numbers = numbers_of(item);
-        let count = numbers.count;
-        let values = numbers.values;
-        let size = write_numbers(&values[..count], out);
-        if out.len() < size {
-            return Written::Refused(NO_ROOM);
-        }
-        Written::Bytes(size)
-    } else {
-        Written::Refused(FIELD_RANGE)
+    check(item)?;
+    let size = write_numbers(numbers_of(item).as_slice(), out);
+    if out.len() < size {
+        return Err(Refusal::NoRoom);
     }
+    Ok(size)
 }
