@@ -7,23 +7,18 @@ ghost use Rattle.holder_sets.specs.Sets.{weight_of, vacated, fetched_sets, claim
 
 use coherence::Slot;
 use slots::block_or;
-use std::num::wrapping_add_u8;
 
+#[tactic(auto, unfolding(crate::specs::Sets::weight_of))]
 fn weight(unit: u8) -> u8
     ensures { result ≡ weight_of unit }
 {
-    let weights: [u8; 4] = [1, 2, 4, 8];
-    if unit < 4 { weights[unit as usize] } else { 0 }
+    [1, 2, 4, 8].get(usize::from(unit)).copied().unwrap_or(0)
 }
 
 pub fn set_at(holders: [u8; 64], block: u8) -> u8
     ensures { result ≡ slice_index holders block }
 {
-    if block < 64 {
-        holders[block as usize]
-    } else {
-        0
-    }
+    holders.get(usize::from(block)).copied().unwrap_or(0)
 }
 
 // The block's set is this one.
@@ -32,62 +27,53 @@ fn with_set(holders: [u8; 64], block: u8, units: u8) -> [u8; 64]
 {
     let mut left = holders;
     if block < 64 {
-        left[block as usize] = units;
+        left[usize::from(block)] = units;
     }
     left
 }
 
-fn without(units: u8, weight: u8) -> u8
-    ensures { result ≡ units - weight }
-{
-    if weight <= units { units - weight } else { 0 }
-}
-
 // The unit no longer has the block that its slot had, if the slot was valid.
+#[tactic(auto, unfolding(crate::specs::Sets::vacated))]
 fn vacated_sets(holders: [u8; 64], slot: Slot, unit: u8, block: u8) -> [u8; 64]
     ensures { result ≡ vacated holders slot unit block }
 {
     let old = block_or(slot, block);
-    with_set(holders, old, without(set_at(holders, old), weight(unit)))
+    let units = set_at(holders, old).saturating_sub(weight(unit));
+    with_set(holders, old, units)
 }
 
 // After a missed load: the unit, whose slot was as given, has the block beside its other holders.
+#[tactic(auto, unfolding(crate::specs::Sets::fetched_sets))]
 pub fn fetched_sets(holders: [u8; 64], slot: Slot, unit: u8, block: u8) -> [u8; 64]
     ensures { result ≡ fetched_sets holders slot unit block }
 {
-    let units = wrapping_add_u8(set_at(holders, block), weight(unit));
+    let units = set_at(holders, block).wrapping_add(weight(unit));
     with_set(vacated_sets(holders, slot, unit, block), block, units)
 }
 
 // After a store of a copyback unit, whose slot was as given: it alone has the block.
+#[tactic(auto, unfolding(crate::specs::Sets::claimed_sets))]
 pub fn claimed_sets(holders: [u8; 64], slot: Slot, unit: u8, block: u8) -> [u8; 64]
     ensures { result ≡ claimed_sets holders slot unit block }
 {
-    with_set(
-        vacated_sets(holders, slot, unit, block),
-        block,
-        weight(unit),
-    )
+    let units = weight(unit);
+    with_set(vacated_sets(holders, slot, unit, block), block, units)
 }
 
 // After a flush of a block that the unit held.
+#[tactic(auto, unfolding(crate::specs::Sets::flushed_sets))]
 pub fn flushed_sets(holders: [u8; 64], unit: u8, block: u8) -> [u8; 64]
     ensures { result ≡ flushed_sets holders unit block }
 {
-    with_set(
-        holders,
-        block,
-        without(set_at(holders, block), weight(unit)),
-    )
+    let units = set_at(holders, block).saturating_sub(weight(unit));
+    with_set(holders, block, units)
 }
 
 // After a store of a write-through unit: it has the block if it `held` it, and no other unit has.
+#[tactic(auto, unfolding(crate::specs::Sets::through_sets))]
 pub fn through_sets(holders: [u8; 64], unit: u8, block: u8, held: bool) -> [u8; 64]
     ensures { result ≡ through_sets holders unit block held }
 {
-    if held {
-        with_set(holders, block, weight(unit))
-    } else {
-        with_set(holders, block, 0)
-    }
+    let units = if held { weight(unit) } else { 0 };
+    with_set(holders, block, units)
 }

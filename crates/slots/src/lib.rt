@@ -1,6 +1,6 @@
 // The directory's slots: one read, one set, a slot's block and rank, the unit that has a block EM, a block taken from its holders, a claim, and what a fetch
-// leaves; and a unit's kind of board. Past the last slot one reads as invalid, and setting one changes nothing. The 64 slots go from hand to hand without the settings and the sets of holders:
-// so a copy of them has 128 bytes (docs/PERFORMANCE.md).
+// leaves; and a unit's kind of board. Past the last slot one reads as invalid, and setting one changes nothing. The 64 slots go from hand to hand without the
+// settings and the sets of holders: so a copy of them has 128 bytes (docs/PERFORMANCE.md).
 #![tactic(auto)]
 
 ghost use Rattle.std.specs.Prelude.{◌≡◌, ◌≤◌};

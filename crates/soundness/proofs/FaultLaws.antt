@@ -17,7 +17,7 @@ use Rattle.coherence.proofs.SlotLaws.{holds_is, shared_holds, modified_holds}
 use Rattle.coherence.proofs.Rules.{tests_rules}
 use Rattle.slots.specs.Directory.{block_or}
 use Rattle.set_test.specs.Sets.{no_block, SlotBySlot}
-use Rattle.soundness.specs.Soundness.{Ranks, misplaced_in, conflict_of, faults_of, faults_at, faultless}
+use Rattle.soundness.specs.Soundness.{misplaced_in, conflict_of, faults_of, faults_at, faultless}
 use Rattle.set_test.proofs.Turns.{four_told}
 
 -- ---- the faults by the slots themselves
@@ -227,14 +227,3 @@ faultless_is d b r p q = go (sound_slots d) (faultless 16 b r) refl refl
         absurd (false≢true (sym e ∙ (tests_rules d).slots.needed
         (rules_of d (λ s l. sym (faults_in_lem d b r s p q l) ∙ eqb-true _ 0 (below_at f 16 s k l)))))
     go false false e k = refl
-
--- ---- the ranks
-rank_low : (x : Slot) → state_number x ≤ 2
-unfolding state_number
-rank_low Invalid = omega arith
-rank_low (Shared b) = omega arith
-rank_low (Modified b) = omega arith
-
-pub ranks_low : (d : Directory) (r : List ℕ) → SlotBySlot state_number d.slots 64 r → Ranks r
-unfolding SlotBySlot Ranks
-ranks_low d r q n l = rw (q n l) (rank_low _)

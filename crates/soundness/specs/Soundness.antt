@@ -1,16 +1,12 @@
 -- How the code tests the directory, by the block and the rank (0 invalid, 1 shared, 2 modified) of each slot: the faults of the four units' slots of one
 -- slot number; and the EM slots of a write-through unit. The sets of holders are `set_test`'s. The rules themselves are `coherence`'s; the proofs show that
 -- these come to the same.
-use Rattle.std.specs.Prelude.{ℕ, ◌+◌, ◌*◌, ◌%◌, ◌≤◌, ◌<◌, Bool, true, cond, not, List, get_or, ltb, eqb}
+use Rattle.std.specs.Prelude.{ℕ, ◌+◌, ◌*◌, ◌%◌, Bool, true, cond, not, List, get_or, ltb, eqb}
 use Rattle.coherence.specs.declared.Settings.{Settings}
 use Rattle.coherence.specs.Settings.{through}
 use Rattle.coherence.specs.Slots.{all_below}
 
 -- ---- the slots
-
--- the 64 numbers are ranks
-unfoldable pub Ranks : List ℕ → Type 0
-Ranks r = (n : ℕ) → n < 64 → get_or r n 0 ≤ 2
 
 -- 1 where block b may not stand in slot s of a unit, whose rank is t, else 0
 unfoldable pub misplaced_in : ℕ → ℕ → ℕ → ℕ

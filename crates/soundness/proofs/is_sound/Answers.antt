@@ -1,46 +1,40 @@
-use mathlib.Core.Path.{◌≡◌, refl, sym, ◌∙◌}
-use mathlib.Core.Bool.{true, false}
-use Rattle.coherence.specs.declared.Directory.{Directory}
-use Rattle.coherence.specs.Slots.{sound_slots, sound_kinds, sound_sets, sound}
-use Rattle.soundness.proofs.FaultLaws.{ranks_low, faultless_is}
+use Rattle.std.proofs.Common.{◌≡◌, Bool, true, false, ◌&&◌, sym, ◌∙◌}
+use Rattle.coherence.specs.Slots.{sound_slots, sound_kinds, sound}
+use Rattle.soundness.proofs.FaultLaws.{faultless_is}
 use Rattle.soundness.proofs.KindLaws.{kinds_kept_lem}
 use Rattle.set_test.proofs.SetLaws.{sets_are}
+use Rattle.soundness.proofs.is_sound.Goals.{then-slots_sound, else-slots_sound}
 use Rattle.soundness.proofs.is_sound.Goals as goal
 
-all_tests : (d : Directory) → sound_slots d ≡ true → sound_kinds d ≡ true → sound_sets d ≡ sound d
-unfolding sound
-all_tests d p q = rw (p, q) refl
+-- the first two tests together: v, where a is the first and k the second
+both_pass : (s : Bool) {a k v : Bool} → a ≡ s → a ≡ true → v ≡ k → v ≡ (s && k)
+both_pass s p q r = rw (sym p ∙ q) r
 
-no_kinds : (d : Directory) → sound_slots d ≡ true → sound_kinds d ≡ false → false ≡ sound d
-unfolding sound
-no_kinds d p q = rw (p, q) refl
-
-no_slots_lem : (d : Directory) → sound_slots d ≡ false → false ≡ sound d
-unfolding sound
-no_slots_lem d p = rw p refl
-
-pub slots_sound-requires : goal.slots_sound-requires
-slots_sound-requires c = ranks_low c.args.directory _ c.ranks_of-ranks.ensures
+first_fails : (s k : Bool) {a v : Bool} → a ≡ s → a ≡ false → v ≡ a → v ≡ (s && k)
+first_fails s k p q r = rw (sym p ∙ q) (r ∙ q)
 
 pub returns-then-kinds_sound : goal.returns-then-kinds_sound
+unfolding sound
 returns-then-kinds_sound c =
     let d = c.args.directory in
     let blocks = c.blocks_of-blocks.ensures in
     let ranks = c.ranks_of-ranks.ensures in
-    c.sets_sound.ensures
-    ∙ sets_are d _ blocks
-    ∙ all_tests d (sym (faultless_is d _ _ blocks ranks) ∙ sym c.slots_sound.ensures ∙ c.if-slots_sound.true)
-    (sym (kinds_kept_lem d _ ranks) ∙ sym c.kinds_sound.ensures ∙ c.if-kinds_sound.true)
+    let slots = c.slots_sound.ensures ∙ faultless_is d _ _ blocks ranks in
+    let v : c.if-slots_sound.value ≡ (sound_slots d && sound_kinds d) = elim c.if-slots_sound.branch [
+      | then-slots_sound w ↦ both_pass _ slots w.if-slots_sound.true (w.value-is ∙ w.kinds_sound.ensures ∙ kinds_kept_lem d _ ranks)
+      | else-slots_sound w ↦ first_fails _ _ slots w.if-slots_sound.false w.value-is
+    ] in
+    rw (sym v ∙ c.if-kinds_sound.true) (c.sets_sound.ensures ∙ sets_are d _ blocks)
 
 pub returns-else-kinds_sound : goal.returns-else-kinds_sound
+unfolding sound
 returns-else-kinds_sound c =
     let d = c.args.directory in
     let blocks = c.blocks_of-blocks.ensures in
     let ranks = c.ranks_of-ranks.ensures in
-    no_kinds d (sym (faultless_is d _ _ blocks ranks) ∙ sym c.slots_sound.ensures ∙ c.if-slots_sound.true)
-    (sym (kinds_kept_lem d _ ranks) ∙ sym c.kinds_sound.ensures ∙ c.if-kinds_sound.false)
-
-pub returns-else-slots_sound : goal.returns-else-slots_sound
-returns-else-slots_sound c =
-    let d = c.args.directory in
-    no_slots_lem d (sym (faultless_is d _ _ c.blocks_of-blocks.ensures c.ranks_of-ranks.ensures) ∙ sym c.slots_sound.ensures ∙ c.if-slots_sound.false)
+    let slots = c.slots_sound.ensures ∙ faultless_is d _ _ blocks ranks in
+    let v : c.if-slots_sound.value ≡ (sound_slots d && sound_kinds d) = elim c.if-slots_sound.branch [
+      | then-slots_sound w ↦ both_pass _ slots w.if-slots_sound.true (w.value-is ∙ w.kinds_sound.ensures ∙ kinds_kept_lem d _ ranks)
+      | else-slots_sound w ↦ first_fails _ _ slots w.if-slots_sound.false w.value-is
+    ] in
+    rw (sym v ∙ c.if-kinds_sound.false) c.if-kinds_sound.false
