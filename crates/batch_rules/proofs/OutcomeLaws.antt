@@ -4,6 +4,7 @@ use mathlib.Core.Path.{◌≡◌, refl, ap, sym, ◌∙◌}
 use mathlib.Core.List.{[]}
 use Rattle.std.specs.Prelude.{Option, None, Some, Result, Ok, Err}
 use Rattle.order.specs.declared.Refusal.{Refusal}
+use Rattle.order.specs.Refusal.{refusal_number}
 use Rattle.coherence.specs.declared.Directory.{Directory}
 use Rattle.coherence.specs.declared.Accepted.{Accepted}
 use Rattle.coherence.specs.Calls.{packed, told as told_call}
@@ -35,6 +36,10 @@ module _ (d : Directory) where
       let f : told_call d (answered r) ≡ told_call d (answered s) =
       answer_is r ∙ ap (λ (n : ℕ). record { refusal = n; value = 0; orders = packed []; directory = d }) e ∙ sym (answer_is s) in
       sym (back r) ∙ ap refusal_in (tells_apart.calls d (answered r) (answered s) f) ∙ back s
+
+  -- none of them is 0
+  pub refused_number : (refusal : Refusal) → refusal_number refusal ≡ 0 → ⊥
+  refused_number refusal e = let n : Some refusal ≡ None = refusal_apart (Some refusal) None e in cc
 
 pub told_apart : ToldApart
 unfolding ToldApart told
