@@ -1,3 +1,1 @@
-mod StepLaws
-mod Underway
-mod TakeLaws
+pub mod Underway

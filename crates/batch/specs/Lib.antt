@@ -1,2 +1,0 @@
--- One access of a list.
-pub mod Step
