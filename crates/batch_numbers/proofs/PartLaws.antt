@@ -5,42 +5,32 @@ use native.Mathlib.Numerals.{add-one}
 use native.Mathlib.Omega.{arith}
 use mathlib.Core.Path.{◌≡◌, refl, ap, ap₂, sym, ◌∙◌}
 use mathlib.Core.Bool.{Bool, true, false, cond}
-use mathlib.Core.List.{List, [], ◌∷◌, ◌++◌}
-use lib.ListN.{length, set, take}
+use mathlib.Core.List.{List, [], ◌∷◌, ◌++◌, append_assoc, append-nil}
+use lib.ListN.{length, length-set, set, take}
 use lib.Seq.{take-suc-set}
-use borrow.Author.Tests.{lt-leb, le-leb}
+use Rattle.std.proofs.lemmas.List.{length-take-le}
+use Rattle.std.specs.Prelude.{None, Some}
 use Rattle.batch_rules.specs.declared.Access.{Access}
 use Rattle.batch_rules.specs.Numbers.{is_kind, kind_at, access_at, known, unknown}
-use Rattle.batch_rules.proofs.NumbersLaws.{known_few}
-use Rattle.batch_numbers.specs.Part.{consecutive}
+use Rattle.batch_numbers.specs.Part.{access_known}
 
 -- ---- the accesses before the first of unknown kind
 
-pub known_consecutive : (ns : List ℕ) (i t : ℕ) → known ns i t ≡ consecutive ns i (length (known ns i t))
-unfolding known consecutive
-known_consecutive ns i zero = refl
-known_consecutive ns i (suc t) = go (is_kind (kind_at ns i)) (known_consecutive ns (suc i) t)
+known_next : (ns : List ℕ) (i t : ℕ) (a : Access) → access_known ns i ≡ Some a → known ns i (suc t) ≡ a ∷ known ns (suc i) t
+unfolding known access_known
+known_next ns i t a = go (is_kind (kind_at ns i))
   where
-    go : (b : Bool) → known ns (suc i) t ≡ consecutive ns (suc i) (length (known ns (suc i) t))
-        → cond b (access_at ns i ∷ known ns (suc i) t) [] ≡ consecutive ns i (length (cond b (access_at ns i ∷ known ns (suc i) t) []))
-    go true h = ap (λ (l : List Access). access_at ns i ∷ l) h
-    go false h = refl
+    go : (b : Bool) → cond b (Some (access_at ns i)) None ≡ Some a → cond b (access_at ns i ∷ known ns (suc i) t) [] ≡ a ∷ known ns (suc i) t
+    go true e = let h : access_at ns i ≡ a = cc in rw h
+    go false e = cc
 
--- one more
-pub consecutive_more : (ns : List ℕ) (i t : ℕ) → consecutive ns i (suc t) ≡ consecutive ns i t ++ (access_at ns (i + t) ∷ [])
-unfolding consecutive
-consecutive_more ns i zero = ap (λ (j : ℕ). access_at ns j ∷ []) (sym (add-zero i))
-consecutive_more ns i (suc t) =
-    ap (λ (l : List Access). access_at ns i ∷ l) (consecutive_more ns (suc i) t ∙ ap (λ (j : ℕ). consecutive ns (suc i) t ++ (access_at ns j ∷ [])) (suc-add i t ∙ sym (add-suc i t)))
-
--- an access of known kind is counted, and one of unknown kind is the last looked at
-pub known_next : (ns : List ℕ) (i t : ℕ) → kind_at ns i ≤ 2 → length (known ns i (suc t)) ≡ suc (length (known ns (suc i) t))
-unfolding known is_kind
-known_next ns i t h = rw (le-leb _ _ h) refl
-
-pub known_stops : (ns : List ℕ) (i t : ℕ) → 2 < kind_at ns i → length (known ns i (suc t)) ≡ 0
-unfolding known is_kind
-known_stops ns i t h = rw (lt-leb _ _ h) refl
+known_stops : (ns : List ℕ) (i t : ℕ) → access_known ns i ≡ None → known ns i (suc t) ≡ []
+unfolding known access_known
+known_stops ns i t = go (is_kind (kind_at ns i))
+  where
+    go : (b : Bool) → cond b (Some (access_at ns i)) None ≡ None → cond b (access_at ns i ∷ known ns (suc i) t) [] ≡ []
+    go true e = cc
+    go false e = refl
 
 -- of a + b accesses, a known ones
 pub record Whole (ns : List ℕ) (i a b : ℕ) : Type 0 where
@@ -87,43 +77,44 @@ known_cut ns i (suc a) b h = go (is_kind (kind_at ns i)) refl h (λ e. known_cut
         record { accesses = ap (known ns i) n ∙ rw e (ap (λ (l : List Access). access_at ns i ∷ l) w.accesses); refusal = ap (unknown ns i) n ∙ rw e w.refusal }
     go false e h rest = record { accesses = ap (known ns i) n ∙ rw e refl; refusal = ap (unknown ns i) n ∙ rw e refl }
 
--- ---- counting the accesses of known kind
+-- ---- an array that is filled with them
 
--- n of them are counted, and the others begin at i + n
-abbrev pub Counted : List ℕ → ℕ → ℕ → ℕ → Type 0
-Counted ns i t n = length (known ns i t) ≡ n + length (known ns (i + n) (t - n))
+-- n of the t accesses from i on stand in the first places, and the others begin at i + n
+pub record Filled (ns : List ℕ) (i t n : ℕ) (list : List Access) : Type 0 where
+  pub places : length list ≡ 64
+  pub front : take n list ++ known ns (i + n) (t - n) ≡ known ns i t
 
-pub count_first : (ns : List ℕ) (i t : ℕ) → Counted ns i t 0
-count_first ns i t = sym (zero-add _ ∙ ap₂ (λ (j u : ℕ). length (known ns j u)) (add-zero i) (omega arith))
-
-module _ (ns : List ℕ) (i t n : ℕ) (counted : Counted ns i t n) where
+module _ {ns : List ℕ} {i t n : ℕ} {list : List Access} (f : Filled ns i t n list) where
   left : n < t → t - n ≡ suc (t - (n + 1))
   left h = omega (arith, h)
 
-  pub count_next : n < t → kind_at ns (i + n) ≤ 2 → Counted ns i t (n + 1)
-  count_next h k =
-      let e : length (known ns (i + n) (t - n)) ≡ suc (length (known ns (suc (i + n)) (t - (n + 1)))) =
-      ap (λ (u : ℕ). length (known ns (i + n) u)) (left h) ∙ known_next ns (i + n) (t - (n + 1)) k in
+  pub filled_next : (a : Access) → n < t → t ≤ 64 → access_known ns (i + n) ≡ Some a → Filled ns i t (n + 1) (set list n a)
+  filled_next a h b e =
+      let s : n < length list = omega (arith, h, b, f.places) in
       let j : suc (i + n) ≡ i + (n + 1) = omega arith in
-      let f : length (known ns (suc (i + n)) (t - (n + 1))) ≡ length (known ns (i + (n + 1)) (t - (n + 1))) = ap (λ (x : ℕ). length (known ns x (t - (n + 1)))) j in
-      omega (arith, counted, e, f)
+      let k : known ns (i + n) (t - n) ≡ a ∷ known ns (i + (n + 1)) (t - (n + 1)) =
+      ap (known ns (i + n)) (left h) ∙ known_next ns (i + n) (t - (n + 1)) a e ∙ ap (λ (x : ℕ). a ∷ known ns x (t - (n + 1))) j in
+      record {
+        places = simp length-set f.places;
+        front =
+            ap (λ (l : List Access). l ++ known ns (i + (n + 1)) (t - (n + 1))) (ap (λ (x : ℕ). take x (set list n a)) (add-one n) ∙ take-suc-set list n a s)
+            ∙ append_assoc (take n list) (a ∷ []) (known ns (i + (n + 1)) (t - (n + 1)))
+            ∙ ap (λ (l : List Access). take n list ++ l) (sym k)
+            ∙ f.front;
+      }
 
-  pub count_stops : n < t → 2 < kind_at ns (i + n) → n ≡ length (known ns i t)
-  count_stops h k =
-      let e : length (known ns (i + n) (t - n)) ≡ 0 = ap (λ (u : ℕ). length (known ns (i + n) u)) (left h) ∙ known_stops ns (i + n) (t - (n + 1)) k in
-      omega (arith, counted, e)
+  ends : n ≤ 64 → known ns (i + n) (t - n) ≡ [] → (take n list ≡ known ns i t) × (n ≡ length (known ns i t))
+  ends b e =
+      let w : take n list ≡ known ns i t = sym (append-nil (take n list)) ∙ ap (λ (l : List Access). take n list ++ l) (sym e) ∙ f.front in
+      let s : n ≤ length list = omega (arith, b, f.places) in
+      (w, sym (length-take-le n list s) ∙ ap length w)
 
-  pub count_last : t ≤ n → n ≡ length (known ns i t)
-  count_last h =
-      let e : length (known ns (i + n) (t - n)) ≤ t - n = known_few ns (i + n) (t - n) in
-      omega (arith, counted, e, h)
+  pub filled_stops : n < t → t ≤ 64 → access_known ns (i + n) ≡ None → (take n list ≡ known ns i t) × (n ≡ length (known ns i t))
+  filled_stops h b e = ends (omega (arith, h, b)) (ap (known ns (i + n)) (left h) ∙ known_stops ns (i + n) (t - (n + 1)) e)
 
--- ---- an array that is filled with accesses
-pub part_next : (ns : List ℕ) (i n : ℕ) (list : List Access) (a : Access) → n < length list → take n list ≡ consecutive ns i n → a ≡ access_at ns (i + n)
-    → take (n + 1) (set list n a) ≡ consecutive ns i (n + 1)
-part_next ns i n list a h e f =
-    ap (λ (k : ℕ). take k (set list n a)) (add-one n)
-    ∙ take-suc-set list n a h
-    ∙ ap₂ (λ (l : List Access) (x : Access). l ++ (x ∷ [])) e f
-    ∙ sym (consecutive_more ns i n)
-    ∙ ap (consecutive ns i) (sym (add-one n))
+  pub filled_last : t ≡ n → t ≤ 64 → (take t list ≡ known ns i t) × (t ≡ length (known ns i t))
+  unfolding known
+  filled_last h b =
+      let z : t - n ≡ 0 = omega (arith, h) in
+      let e : (take n list ≡ known ns i t) × (n ≡ length (known ns i t)) = ends (omega (arith, h, b)) (ap (known ns (i + n)) z) in
+      (ap (λ (x : ℕ). take x list) h ∙ e.0, h ∙ e.1)

@@ -1,32 +1,23 @@
 -- One part of a list keeps `run_part`'s promise.
-use Prim.Native.Nat.{ℕ, ◌+◌, ◌-◌, ◌*◌, ◌≤◌, ◌<◌}
+use Prim.Native.Nat.{ℕ, ◌+◌, ◌-◌, ◌*◌, ◌≤◌, ◌<◌, min}
 use native.Mathlib.Omega.{arith}
 use mathlib.Core.Path.{◌≡◌, refl, ap, sym, ◌∙◌}
 use mathlib.Core.Bool.{Bool, true, false, cond}
 use mathlib.Core.List.{List, ◌++◌, append-nil}
-use lib.Dec.{eqb, ltb, leb}
+use lib.Dec.{eqb, ltb}
 use lib.ListN.{length, take, drop, length-drop, drop_of_length-le as drop_all}
 use lib.Seq.{take_all}
-use borrow.Author.Tests.{eqb-true, eqb-false, ltb-true, ltb-false, leb-true, leb-false}
-use Rattle.crossing.specs.Capped.{capped}
+use borrow.Author.Tests.{eqb-true, eqb-false, ltb-true, ltb-false}
 use Rattle.batch_rules.specs.declared.Access.{Access}
-use Rattle.batch_rules.specs.declared.Outcome.{Outcome}
+use Rattle.batch_rules.specs.Outcome.{Outcome}
 use Rattle.batch_rules.specs.Batch.{Batch, batch, ran, none, batch_result}
 use Rattle.batch_rules.specs.Split.{joined}
 use Rattle.batch_rules.specs.Numbers.{count_of, known, unknown, refused_by, ran_numbers}
 use Rattle.batch_rules.proofs.RanLaws.{ran_still}
 use Rattle.batch_rules.proofs.SplitLaws.{ran_split, ran_shift, fits_result, ran_index, ran_orders, ran_whole}
 use Rattle.batch_rules.proofs.NumbersLaws.{known_few, refused_still, refused_none, numbers_still}
-use Rattle.batch_numbers.specs.Part.{consecutive, Room, Parted}
-use Rattle.batch_numbers.proofs.PartLaws.{known_consecutive, Whole, known_whole, Cut, known_cut}
-
-pub part_most : (n : ℕ) → 0 < n → (0 < capped 64 n) × (capped 64 n ≤ 64) × (capped 64 n ≤ n)
-unfolding capped
-part_most n h = go (leb n 64) refl
-  where
-    go : (t : Bool) → leb n 64 ≡ t → (0 < cond t n 64) × (cond t n 64 ≤ 64) × (cond t n 64 ≤ n)
-    go true e = (h, leb-true n 64 e, omega arith)
-    go false e = (omega arith, omega arith, let l = leb-false n 64 e in omega (arith, l))
+use Rattle.batch_numbers.specs.Part.{Room, Parted}
+use Rattle.batch_numbers.proofs.PartLaws.{Whole, known_whole, Cut, known_cut}
 
 below : (a b : ℕ) → a ≤ b → (a ≡ b → ⊥) → a < b
 below a b h e = go (ltb a b) refl
@@ -36,7 +27,7 @@ below a b h e = go (ltb a b) refl
     go false f = absurd (e (let l = ltb-false a b f in omega (arith, h, l)))
 
 module _ (s : Outcome) (ns vs m k : List ℕ) (room : Room s ns (length vs)) (most count : ℕ) (list : List Access) (p : Outcome) (vs'' m' k' : List ℕ)
-    (em : most ≡ capped 64 (count_of ns - s.index)) (ec : count ≡ length (known ns s.index most)) (el : take count list ≡ consecutive ns s.index count)
+    (em : most ≡ min (count_of ns - s.index) 64) (el : (take count list ≡ known ns s.index most) × (count ≡ length (known ns s.index most)))
     (er : batch p vs'' m' k' ≡ batch_result (take count list) (take (length vs - s.index) (drop s.index vs)) s.directory m k) where
   abbrev i : ℕ
   i = s.index
@@ -56,13 +47,16 @@ module _ (s : Outcome) (ns vs m k : List ℕ) (room : Room s ns (length vs)) (mo
   bounds = (room.1, room.2, room.3, room.4)
 
   mosts : (0 < most) × (most ≤ 64) × (most ≤ n - i)
-  mosts = rw em (part_most (n - i) (omega (arith, bounds)))
+  mosts = (omega (arith, em, bounds), omega (arith, em), omega (arith, em))
 
   few : length l ≤ most
   few = known_few ns i most
 
   taken : take count list ≡ l
-  taken = el ∙ ap (consecutive ns i) ec ∙ sym (known_consecutive ns i most)
+  taken = el.0
+
+  ec : count ≡ length l
+  ec = el.1
 
   -- the part by itself
   abbrev alone : Batch

@@ -8,7 +8,7 @@ use lib.Dec.{eqb, ltb}
 use lib.ListN.{length}
 use borrow.Author.Tests.{eq-eqb, eqb-true, eqb-false, ltb-false}
 use Rattle.coherence.specs.declared.Directory.{Directory}
-use Rattle.batch_rules.specs.declared.Outcome.{Outcome}
+use Rattle.batch_rules.specs.Outcome.{Outcome}
 use Rattle.batch_rules.specs.Batch.{Batch, batch, none}
 use Rattle.batch_rules.specs.Numbers.{count_of, opened_numbers, ran_numbers}
 use Rattle.batch_outcome.proofs.GoesOn.{goes, goes_fresh, goes_inside}

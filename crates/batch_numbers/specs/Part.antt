@@ -1,15 +1,18 @@
 -- What one part of a list promises to the loop over the parts.
-use Rattle.std.specs.Prelude.{ℕ, zero, suc, ◌*◌, ◌≤◌, ◌<◌, ◌≡◌, List, [], ◌∷◌}
+use Rattle.std.specs.Prelude.{ℕ, ◌*◌, ◌≤◌, ◌<◌, ◌≡◌, Option, None, Some, cond, List}
 use Rattle.order.specs.Refusal.{accepted}
 use Rattle.batch_rules.specs.declared.Access.{Access}
-use Rattle.batch_rules.specs.declared.Outcome.{Outcome}
+use Rattle.batch_rules.specs.Outcome.{Outcome}
 use Rattle.batch_rules.specs.Batch.{most_accesses}
-use Rattle.batch_rules.specs.Numbers.{access_at, count_of, ran_numbers}
+use Rattle.batch_rules.specs.Numbers.{is_kind, call_from, kind_at, access_at, count_of, ran_numbers}
 
--- the t accesses from i on, of whatever kind
-unfoldable pub consecutive : List ℕ → ℕ → ℕ → List Access
-consecutive ns i zero = []
-consecutive ns i (suc t) = access_at ns i ∷ consecutive ns (suc i) t
+-- the access of four numbers, if its kind is known
+unfoldable pub access_from : ℕ → ℕ → ℕ → ℕ → Option Access
+access_from kind unit at value = cond (is_kind kind) (Some (record { call = call_from kind unit at value })) None
+
+-- access i of the numbers ns, if its kind is known
+unfoldable pub access_known : List ℕ → ℕ → Option Access
+access_known ns i = cond (is_kind (kind_at ns i)) (Some (access_at ns i)) None
 
 -- nothing is refused yet, there are accesses left and places for all values, and the orders can be counted on
 unfoldable pub Room : Outcome → List ℕ → ℕ → Type 0

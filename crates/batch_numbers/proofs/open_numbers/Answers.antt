@@ -1,7 +1,7 @@
-use mathlib.Core.Path.{ap₂, ◌∙◌}
-use Rattle.batch_rules.specs.Numbers.{refused_by, opened_numbers}
+use Rattle.batch_rules.specs.Numbers.{opened_numbers}
+use Rattle.batch_outcome.proofs.RefusedLaws.{unless_told}
 use Rattle.batch_numbers.proofs.open_numbers.Goals as goal
 
 pub returns : goal.returns
 unfolding opened_numbers
-returns c = c.refused_by.ensures ∙ ap₂ refused_by c.refusal_unless.ensures c.before.«open».ensures
+returns c = rw (c.refused_by.ensures, c.then_some.ensures, c.before.«open».ensures, unless_told)
