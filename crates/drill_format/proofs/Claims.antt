@@ -9,7 +9,7 @@ use lib.ListN.{length, length-replicate}
 use borrow.Author.Tests.{eqb-true}
 use Rattle.coherence.specs.declared.Call.{Call}
 use Rattle.coherence.specs.declared.Directory.{Directory}
-use Rattle.coherence.specs.declared.Answer.{Answer}
+use Rattle.coherence.specs.Answer.{Answer}
 use Rattle.coherence.specs.PlainMemory.{plain_reply, plain_after, plain_replies}
 use Rattle.coherence.specs.Settings.{drill_settings}
 use Rattle.coherence.specs.Calls.{answer, memory_after, cache_after, answers, answers_cold, start_answer}

@@ -46,4 +46,4 @@ unfolding
     sized is_unit is_address is_block size_test directory_test unit_test target_test call_refusal start_refusal
     unit_of is_target refusal act loaded settle after value_of packed answer memory_after cache_after start_answer cache_started answers answers_cold
     orders_in orders_given field access_part orders_part call_line lines total_line refused_line zero_store calls_in answers_in last_line drill_text printed example_tape
-examples = record { whole = refl; empty = refl; others = refl; stamps = refl; refused = refl; longer = long_text; up_to = run_text; unreadable = λ tape. refl; readable = λ tape. refl }
+examples = record { whole = refl; empty = refl; others = refl; stamps = refl; refused = refl; longer = long_text; up_to = run_text; unreadable = refl; readable = λ tape. refl }

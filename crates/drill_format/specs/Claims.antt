@@ -1,7 +1,7 @@
 -- What holds of the drill of every tape.
 use Rattle.std.specs.Prelude.{ℕ, ◌+◌, ◌*◌, ◌≤◌, ◌≡◌, cond, List, [], ◌∷◌, map, leb, length}
 use Rattle.order.specs.Refusal.{accepted}
-use Rattle.coherence.specs.declared.Answer.{Answer}
+use Rattle.coherence.specs.Answer.{Answer}
 use Rattle.coherence.specs.PlainMemory.{plain_replies}
 use Rattle.coherence.specs.Demand3.{orders_in, orders_given, reply, loads, stores, Each}
 use Rattle.tape_format.specs.Record.{kind_of}

@@ -1,13 +1,14 @@
 -- What a drill prints for a tape, and what `drill` answers and leaves in the lent space (document 01, "Drill").
-use Rattle.std.specs.Prelude.{ℕ, Bool, cond, List, ◌++◌, leb, length, replicate}
-use Rattle.order.specs.Refusal.{accepted, no_room, unreadable}
+use Rattle.std.specs.Prelude.{ℕ, Option, None, Some, Result, Ok, Err, cond, List, ◌++◌, leb, length, replicate}
+use Rattle.order.specs.declared.Refusal.{Refusal}
+use Rattle.order.specs.declared.Refusal.TheVariants.{NoRoom}
+use Rattle.order.specs.Refusal.{refusal_number, no_room, unreadable}
 use Rattle.coherence.specs.declared.Call.{Call}
-use Rattle.coherence.specs.declared.Answer.{Answer}
+use Rattle.coherence.specs.Answer.{Answer}
 use Rattle.coherence.specs.Bytes.{store_size}
 use Rattle.coherence.specs.Settings.{drill_settings}
 use Rattle.coherence.specs.Calls.{answers_cold}
 use Rattle.coherence.specs.Demand3.{orders_given}
-use Rattle.drill_format.specs.declared.Drilled.{Drilled}
 use Rattle.reading.specs.Reading.{Ending, finished, refused, read_all, calls_of}
 use Rattle.drill_format.specs.Line.{lines, total_line, refused_line}
 
@@ -34,7 +35,7 @@ answers_in tape = answers_cold drill_settings zero_store (calls_in tape)
 -- the total, or for a reading refusal "`refused N at P` .. with no total"
 unfoldable pub last_line : Ending → ℕ → ℕ → List ℕ
 last_line finished calls orders = total_line calls orders
-last_line (refused number place) calls orders = refused_line number place
+last_line (refused e) calls orders = refused_line (refusal_number e.refusal) e.place
 
 -- what a drill prints: "A longer tape prints only `refused 9 at 65536`."
 unfoldable pub drill_text : List ℕ → List ℕ
@@ -44,14 +45,12 @@ drill_text tape =
     ++ last_line (read_all tape).ending (length (calls_in tape)) (orders_given (answers_in tape)))
     (refused_line no_room tape_most)
 
--- what the program prints for its standard input, of which `tape` was read: `refused 18 at 0` where reading failed, whatever came before (document 02, T-12, has 18
+-- what the program prints for its standard input: a tape's text, and `refused 18 at 0` where reading failed, whatever came before (document 02, T-12, has 18
 -- for what can't be read)
-unfoldable pub printed : Bool → List ℕ → List ℕ
-printed failed tape = cond failed (refused_line unreadable 0) (drill_text tape)
+unfoldable pub printed : Option (List ℕ) → List ℕ
+printed None = refused_line unreadable 0
+printed (Some tape) = drill_text tape
 
 -- the answer for a space of so many bytes: how many the text has; refusal 9 where it has no room
-unfoldable pub drilled_in : List ℕ → ℕ → Drilled
-drilled_in text room =
-    cond (leb (length text) room)
-    (record { refusal = accepted; count = length text })
-    (record { refusal = no_room; count = 0 })
+unfoldable pub drilled_in : List ℕ → ℕ → Result ℕ Refusal
+drilled_in text room = cond (leb (length text) room) (Ok (length text)) (Err NoRoom)

@@ -1,5 +1,5 @@
 -- Document 01's example of a drill, byte for byte, and the other texts that it gives word for word.
-use Rattle.std.specs.Prelude.{ℕ, ◌≤◌, ◌<◌, ◌≡◌, true, false, List, [], ◌∷◌, ◌++◌, length, replicate}
+use Rattle.std.specs.Prelude.{ℕ, ◌≤◌, ◌<◌, ◌≡◌, None, Some, List, [], ◌∷◌, ◌++◌, length, replicate}
 use Rattle.text.specs.Space.{ascii}
 use Rattle.coherence.specs.Demand3.{orders_given}
 use Rattle.reading.specs.Reading.{read_all}
@@ -30,5 +30,5 @@ pub record Examples : Type 0 where
       (tape : List ℕ) → length tape ≤ 65536
       → drill_text tape ≡ lines (calls_in tape) (answers_in tape) ++ last_line (read_all tape).ending (length (calls_in tape)) (orders_given (answers_in tape))
   -- an input that can't be read, and one that was read
-  pub unreadable : (tape : List ℕ) → printed true tape ≡ ascii "refused 18 at 0\n"
-  pub readable : (tape : List ℕ) → printed false tape ≡ drill_text tape
+  pub unreadable : printed None ≡ ascii "refused 18 at 0\n"
+  pub readable : (tape : List ℕ) → printed (Some tape) ≡ drill_text tape

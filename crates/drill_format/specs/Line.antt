@@ -2,7 +2,7 @@
 use Rattle.std.specs.Prelude.{ℕ, List, [], ◌++◌, ◌∷◌, length}
 use Rattle.coherence.specs.declared.Call.{Call}
 use Rattle.coherence.specs.declared.Call.TheVariants.{Load, Store, Flush}
-use Rattle.coherence.specs.declared.Answer.{Answer}
+use Rattle.coherence.specs.Answer.{Answer}
 use Rattle.coherence.specs.Demand3.{orders_in}
 use Rattle.text.specs.Space.{ascii}
 use Rattle.text.specs.Decimal.{decimal}
