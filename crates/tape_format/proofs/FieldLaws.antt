@@ -1,7 +1,7 @@
--- Laws of a field: what each way out of the code finds, and what is known of the number that was read.
+-- Laws of a field: which numbers are taken, and what is known of one that was read.
 use Prim.Native.Nat.{ℕ, ◌≤◌}
 use native.Mathlib.Omega.{arith}
-use mathlib.Core.Path.{◌≡◌, refl, sym, ◌∙◌}
+use mathlib.Core.Path.{◌≡◌, refl}
 use mathlib.Core.List.{List}
 use mathlib.Core.Bool.{Bool, true, false, cond, ◌&&◌, false≢true}
 use lib.Dec.{leb}
@@ -21,12 +21,8 @@ pub both_true : (a b : Bool) → a && b ≡ true → (a ≡ true) × (b ≡ true
 both_true true b e = (refl, e)
 both_true false b e = absurd (false≢true e)
 
--- what each way out of `field` finds
+-- a number that the rule allows, and one that it does not
 module _ (rule : Rule) (tape : List ℕ) (at : ℕ) where
-  pub field_refused : {r : Result (ℕ × ℕ) Refused} {e : Refused} → r ≡ number_at tape at → r ≡ Err e → r ≡ field_at rule tape at
-  unfolding field_at ruled
-  field_refused a b = rw (← a, b)
-
   pub field_allowed : {r : Result (ℕ × ℕ) Refused} {v q : ℕ} → r ≡ number_at tape at → r ≡ Ok (v, q) → allowed rule v ≡ true → Ok (v, q) ≡ field_at rule tape at
   unfolding field_at ruled
   field_allowed a b h = rw (← a, b, h)
@@ -84,7 +80,3 @@ allowed_64_bits Byte n h = omega (arith, allowed_most Byte n h)
 allowed_64_bits Flag n h = omega (arith, allowed_most Flag n h)
 allowed_64_bits Bct n h = omega (arith, allowed_most Bct n h)
 allowed_64_bits Cycles n h = allowed_most Cycles n h
-
--- the number that code read is at most what the field's rule allows
-pub most : (rule : Rule) (tape : List ℕ) (at : ℕ) {f : Result (ℕ × ℕ) Refused} {v q : ℕ} → f ≡ field_at rule tape at → f ≡ Ok (v, q) → v ≤ most_of rule
-most rule tape at {f} {v} {q} a b = allowed_most rule v (field_number rule tape at v q (sym a ∙ b)).1
