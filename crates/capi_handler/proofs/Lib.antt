@@ -1,3 +1,4 @@
+pub mod LockLaws
 pub mod StateLaws
 pub mod ArbitrateLaws
 pub mod Examples

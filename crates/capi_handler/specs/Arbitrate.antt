@@ -2,8 +2,7 @@
 -- nor 1; then the handler's own refusal. A refused call leaves everything.
 use Rattle.std.specs.Prelude.{ℕ, ◌≤◌, ◌≡◌, cond, List, ◌++◌, length, drop, leb, eqb}
 use Rattle.order.specs.Refusal.{accepted, field_range, no_room}
-use Rattle.handler.specs.declared.Arbitration.{Arbitration}
-use Rattle.handler.specs.Handler.{arbitration, initial}
+use Rattle.handler.specs.Handler.{Arbitration, arbitration, initial}
 use Rattle.crossing.specs.Capped.{capped}
 use Rattle.capi_handler.specs.State.{state_size, state_numbers, state_from, class_granted, unit_granted}
 

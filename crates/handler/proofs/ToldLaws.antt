@@ -1,5 +1,5 @@
 -- Different returns of the code, and different states left, are told differently.
-use Prim.Native.Nat.{ℕ, ◌≤◌}
+use Prim.Native.Nat.{ℕ}
 use mathlib.Core.Path.{◌≡◌, refl, sym, ap, ◌∙◌}
 use mathlib.Core.Bool.{cond}
 use native.Mathlib.Omega.{arith}
@@ -30,31 +30,47 @@ numbered n =
     (cond (eqb n 17) HalvesDiffer
     Unreadable))))))))))))
 
--- a refusal is the one of its number, which isn't 0
-known : (x : Refusal) → (numbered (refusal_number x) ≡ x) × (1 ≤ refusal_number x)
+known : (x : Refusal) → numbered (refusal_number x) ≡ x
 unfolding numbered
-known WrongSize = (refl, omega arith)
-known BrokenDirectory = (refl, omega arith)
-known NoUnit = (refl, omega arith)
-known BadAddress = (refl, omega arith)
-known Cut = (refl, omega arith)
-known BadNumber = (refl, omega arith)
-known UnknownKind = (refl, omega arith)
-known FieldRange = (refl, omega arith)
-known NoRoom = (refl, omega arith)
-known BadState = (refl, omega arith)
-known OtherSource = (refl, omega arith)
-known OutOfTurn = (refl, omega arith)
-known HalvesDiffer = (refl, omega arith)
-known Unreadable = (refl, omega arith)
+known WrongSize = refl
+known BrokenDirectory = refl
+known NoUnit = refl
+known BadAddress = refl
+known Cut = refl
+known BadNumber = refl
+known UnknownKind = refl
+known FieldRange = refl
+known NoRoom = refl
+known BadState = refl
+known OtherSource = refl
+known OutOfTurn = refl
+known HalvesDiffer = refl
+known Unreadable = refl
+
+-- no refusal has the number 0
+pub refusal_not_0 : (x : Refusal) → refusal_number x ≡ 0 → ⊥
+refusal_not_0 WrongSize e = omega arith
+refusal_not_0 BrokenDirectory e = omega arith
+refusal_not_0 NoUnit e = omega arith
+refusal_not_0 BadAddress e = omega arith
+refusal_not_0 Cut e = omega arith
+refusal_not_0 BadNumber e = omega arith
+refusal_not_0 UnknownKind e = omega arith
+refusal_not_0 FieldRange e = omega arith
+refusal_not_0 NoRoom e = omega arith
+refusal_not_0 BadState e = omega arith
+refusal_not_0 OtherSource e = omega arith
+refusal_not_0 OutOfTurn e = omega arith
+refusal_not_0 HalvesDiffer e = omega arith
+refusal_not_0 Unreadable e = omega arith
 
 returned_one : (r q : Result (Option Grant) Refusal) (s t : State) → told r s ≡ told q t → r ≡ q
 unfolding told
 returned_one (Ok g) (Ok h) s t e = ap (λ (a : Arbitration). Ok a.grant) e
-returned_one (Ok g) (Err y) s t e = absurd (omega (arith, (known y).1, ap (λ (a : Arbitration). a.refusal) e))
-returned_one (Err x) (Ok h) s t e = absurd (omega (arith, (known x).1, ap (λ (a : Arbitration). a.refusal) e))
+returned_one (Ok g) (Err y) s t e = absurd (refusal_not_0 y (sym (ap (λ (a : Arbitration). a.refusal) e)))
+returned_one (Err x) (Ok h) s t e = absurd (refusal_not_0 x (ap (λ (a : Arbitration). a.refusal) e))
 returned_one (Err x) (Err y) s t e =
-    ap Err (sym (known x).0 ∙ ap (λ (a : Arbitration). numbered a.refusal) e ∙ (known y).0)
+    ap Err (sym (known x) ∙ ap (λ (a : Arbitration). numbered a.refusal) e ∙ known y)
 
 left : (r : Result (Option Grant) Refusal) (s : State) → (told r s).state ≡ s
 unfolding told
