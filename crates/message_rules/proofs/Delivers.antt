@@ -8,11 +8,9 @@ use mathlib.Core.List.{List, [], ◌∷◌, ◌++◌, map}
 use lib.ListN.{length, drop, replicate}
 use lib.Seq.{sets, sets-eq}
 use borrow.Author.Tests.{eq-eqb, ne_eqb}
-use Rattle.message_rules.specs.declared.Receiver.{Receiver}
-use Rattle.message_rules.specs.declared.Receiver.TheVariants.{Idle}
-use Rattle.message_rules.specs.declared.Receipt.{Receipt}
+use Rattle.std.specs.Prelude.{None}
 use Rattle.message_rules.specs.Operation.{Operation}
-use Rattle.message_rules.specs.Receiver.{receive_refusal, refused, receipt, store_after, completion_told}
+use Rattle.message_rules.specs.Receiver.{Receiver, Receipt, receive_refusal, refused, receipt, store_after, completion_told}
 use Rattle.message_rules.specs.Sender.{send_refusal, operation_count, division, operations_from, operations}
 use Rattle.message_rules.specs.Delivery.{receipts, receiver_left, store_left, Delivered, Delivers, Interleaved, kept, DeliversInterleaved, Each}
 use Rattle.message_rules.proofs.ReceiverLaws.{refused_answer, refused_store}
@@ -53,7 +51,7 @@ whole m s a st e size = let q = one_more m s a e in rest m s a st 0 (others m) e
 
 -- such answers, an idle receiver and the message in the store are what is claimed
 pub delivered : (m : List ℕ) (s a : ℕ) (st : List ℕ) (answers : List Receipt) (r : Receiver) (st' : List ℕ)
-    → send_refusal m s a ≡ 0 → length st ≡ 4096 → answers ≡ series s a (length m) 0 (others m) → r ≡ Idle → st' ≡ sets st 0 m
+    → send_refusal m s a ≡ 0 → length st ≡ 4096 → answers ≡ series s a (length m) 0 (others m) → r ≡ None → st' ≡ sets st 0 m
     → Delivered m s a st answers r st'
 delivered m s a st answers r st' e size x y z =
     let p = sendable m s a e in
@@ -140,6 +138,6 @@ delivers_interleaved m s a st given p size i =
     let e = sends m s a p in
     let w = whole m s a st e size in
     let o = operations_from_lem m s a e in
-    let all : Each (λ x. x.refusal ≡ 0) (receipts Idle st (operations m s a)) = rw (o, w.answers) (series_accepted s a (length m) 0 (others m)) in
-    let k = interleaved Idle st (operations m s a) given all i in
+    let all : Each (λ x. x.refusal ≡ 0) (receipts None st (operations m s a)) = rw (o, w.answers) (series_accepted s a (length m) 0 (others m)) in
+    let k = interleaved None st (operations m s a) given all i in
     delivered m s a st _ _ _ e size (k.answers ∙ rw o w.answers) (k.receiver ∙ rw o w.receiver) (k.store ∙ rw o w.store)

@@ -7,3 +7,4 @@ pub mod SenderLaws
 pub mod Operations
 pub mod Delivers
 pub mod OtherSenders
+pub mod AnswerLaws

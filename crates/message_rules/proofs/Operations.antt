@@ -9,12 +9,9 @@ use lib.ListN.{length, take, drop}
 use lib.Seq.{sets, length-sets, take-add, take_all, length-take-le}
 use borrow.Author.Tests.{eq-eqb, ne_eqb, le-leb}
 use Rattle.text.proofs.SpaceLaws.{sets_append}
-use Rattle.message_rules.specs.declared.Receiver.{Receiver}
-use Rattle.message_rules.specs.declared.Receiver.TheVariants.{Idle, Pending}
-use Rattle.message_rules.specs.declared.Completion.TheVariants.{Incomplete, Complete}
-use Rattle.message_rules.specs.declared.Receipt.{Receipt}
+use Rattle.std.specs.Prelude.{Some, None}
 use Rattle.message_rules.specs.Operation.{Operation, operation, is_source}
-use Rattle.message_rules.specs.Receiver.{state_allowed, in_turn, is_expected, start_of, receive_refusal, taken, receipt, store_after}
+use Rattle.message_rules.specs.Receiver.{Receiver, Receipt, brought, state_allowed, in_turn, is_expected, start_of, receive_refusal, taken, receipt, store_after}
 use Rattle.message_rules.specs.Sender.{send_refusal, operation_count, sequence_of, part_of, operations_from}
 use Rattle.message_rules.specs.Delivery.{receipts, receiver_left, store_left}
 use Rattle.message_rules.proofs.ReceiverLaws.{source_true, range_of, passes_all, accepted_answer, accepted_store}
@@ -24,8 +21,8 @@ use Rattle.message_rules.proofs.SenderLaws.{sendable, made, from_made, part_star
 
 -- the receiver before operation k: idle before the first, and then pending with 256 k bytes
 unfoldable pub before : ℕ → ℕ → ℕ → Receiver
-before s a zero = Idle
-before s a (suc k) = Pending s a (256 * suc k)
+before s a zero = None
+before s a (suc k) = Some (brought s a (256 * suc k))
 
 -- the store before operation k
 unfoldable pub held : List ℕ → List ℕ → ℕ → List ℕ
@@ -94,10 +91,10 @@ answer_made m s a st k e size h =
 
 -- an answer to an operation that completes the message of n bytes, and to one that leaves it so far
 unfoldable pub completing : ℕ → ℕ → ℕ → Receipt
-completing s a n = record { refusal = 0; receiver = Idle; completion = Complete s a n }
+completing s a n = record { refusal = 0; receiver = None; completion = Some (brought s a n) }
 
 unfoldable pub continuing : Receiver → Receipt
-continuing r = record { refusal = 0; receiver = r; completion = Incomplete }
+continuing r = record { refusal = 0; receiver = r; completion = None }
 
 pub answer_last : (m : List ℕ) (s a : ℕ) (st : List ℕ) (k : ℕ) → send_refusal m s a ≡ 0 → length st ≡ 4096 → suc k ≡ operation_count (length m)
     → receipt (before s a k) (held m st k) (made m s a k) ≡ completing s a (length m)
@@ -147,7 +144,7 @@ series s a n k (suc j) = continuing (before s a (suc k)) ∷ series s a n (suc k
 
 pub record Rest (m : List ℕ) (s a : ℕ) (st : List ℕ) (k j : ℕ) : Type 0 where
   pub answers : receipts (before s a k) (held m st k) (operations_from m s a k (suc j)) ≡ series s a (length m) k j
-  pub receiver : receiver_left (before s a k) (held m st k) (operations_from m s a k (suc j)) ≡ Idle
+  pub receiver : receiver_left (before s a k) (held m st k) (operations_from m s a k (suc j)) ≡ None
   pub store : store_left (before s a k) (held m st k) (operations_from m s a k (suc j)) ≡ sets st 0 m
 
 pub rest : (m : List ℕ) (s a : ℕ) (st : List ℕ) (k j : ℕ) → send_refusal m s a ≡ 0 → length st ≡ 4096 → suc k + j ≡ operation_count (length m)

@@ -9,11 +9,9 @@ use lib.Dec.{eqb}
 use lib.ListN.{length, take}
 use lib.Seq.{length-sets}
 use borrow.Author.Tests.{ne_eqb}
-use Rattle.message_rules.specs.declared.Receiver.{Receiver}
-use Rattle.message_rules.specs.declared.Receiver.TheVariants.{Idle, Pending}
-use Rattle.message_rules.specs.declared.Receipt.{Receipt}
+use Rattle.std.specs.Prelude.{Some, None}
 use Rattle.message_rules.specs.Operation.{Operation, starts}
-use Rattle.message_rules.specs.Receiver.{state_allowed, is_expected, receive_refusal, refused, receipt, store_after}
+use Rattle.message_rules.specs.Receiver.{brought, Receiver, Receipt, state_allowed, is_expected, receive_refusal, refused, receipt, store_after}
 use Rattle.message_rules.specs.Sender.{send_refusal, operation_count, operations_from, operations}
 use Rattle.message_rules.specs.Delivery.{receipts, Interleaved, DeliversInterleaved, Foreign, Among, Between, Each, RefusesOthers}
 use Rattle.message_rules.proofs.ReceiverLaws.{source_true, range_of, refused_answer, refused_store, other_refused}
@@ -54,18 +52,18 @@ refused_between r st o g sent given h n k =
       numbers = rw (refused_answer r st g h, refused_store r st g h) (inr n, k.numbers);
     }
 
-not_expected : (s a n : ℕ) (g : Operation) → (g.sender ≢ s) ⊎ (g.aid ≢ a) → is_expected (Pending s a n) g.sender g.aid ≡ false
+not_expected : (s a n : ℕ) (g : Operation) → (g.sender ≢ s) ⊎ (g.aid ≢ a) → is_expected (Some (brought s a n)) g.sender g.aid ≡ false
 unfolding is_expected
 not_expected s a n g h = ⊎_elim (λ d. rw (ne_eqb g.sender s d)) (λ d. rw (ne_eqb g.aid a d) (and-false (eqb g.sender s))) h
 
 other : (s a n : ℕ) (st : List ℕ) (o g : Operation) (sent given : List Operation)
-    → length st ≡ 4096 → state_allowed (Pending s a n) ≡ true → Foreign s a g → Others (Pending s a n) st (o ∷ sent) given
-    → Others (Pending s a n) st (o ∷ sent) (g ∷ given)
+    → length st ≡ 4096 → state_allowed (Some (brought s a n)) ≡ true → Foreign s a g → Others (Some (brought s a n)) st (o ∷ sent) given
+    → Others (Some (brought s a n)) st (o ∷ sent) (g ∷ given)
 other s a n st o g sent given size state f h = go (starts g.sequence) (other_refused s a n st g size state (range_of g.sender g.aid (length g.bytes) f.sender f.aid f.least f.most) (not_expected s a n g f.other))
   where
-    go : (t : Bool) → receive_refusal (Pending s a n) st g ≡ cond t 12 11 → Others (Pending s a n) st (o ∷ sent) (g ∷ given)
-    go true e = refused_between (Pending s a n) st o g sent given (λ z. absurd (omega (arith, e, z))) (inr e) h
-    go false e = refused_between (Pending s a n) st o g sent given (λ z. absurd (omega (arith, e, z))) (inl e) h
+    go : (t : Bool) → receive_refusal (Some (brought s a n)) st g ≡ cond t 12 11 → Others (Some (brought s a n)) st (o ∷ sent) (g ∷ given)
+    go true e = refused_between (Some (brought s a n)) st o g sent given (λ z. absurd (omega (arith, e, z))) (inr e) h
+    go false e = refused_between (Some (brought s a n)) st o g sent given (λ z. absurd (omega (arith, e, z))) (inl e) h
 
 -- before operation k + 1
 other_before : (m : List ℕ) (s a : ℕ) (st : List ℕ) (k j : ℕ) (g : Operation) (given : List Operation)
@@ -130,5 +128,5 @@ refuses_others m s a st given p size h =
     let e = sends m s a p in
     let o = operations_from_lem m s a e in
     let k = between m s a st (others m) given e size (sym (one_more m s a e)) (rw o at h) in
-    let i : Interleaved Idle st (operations m s a) given = rw o k.interleaves in
+    let i : Interleaved None st (operations m s a) given = rw o k.interleaves in
     record { numbers = k.numbers; interleaved = i; delivered = delivers_interleaved m s a st given p size i }

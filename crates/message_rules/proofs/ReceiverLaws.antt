@@ -11,12 +11,9 @@ use lib.Seq.{sets}
 use borrow.Author.Tests.{eq-eqb, ne_eqb, le-leb, eqb-true, eqb-false, leb-true, not-true}
 use Rattle.message_rules.specs.declared.Sequence.{Sequence}
 use Rattle.message_rules.specs.declared.Sequence.TheVariants.{Single, First, Middle, Last}
-use Rattle.message_rules.specs.declared.Receiver.{Receiver}
-use Rattle.message_rules.specs.declared.Receiver.TheVariants.{Idle, Pending}
-use Rattle.message_rules.specs.declared.Completion.TheVariants.{Incomplete, Complete}
-use Rattle.message_rules.specs.declared.Receipt.{Receipt}
+use Rattle.std.specs.Prelude.{Some, None}
 use Rattle.message_rules.specs.Operation.{Operation, is_source, starts, ends}
-use Rattle.message_rules.specs.Receiver.{state_allowed, in_range, in_turn, is_expected, start_of, receive_refusal, accepts, Follows, Acceptable, AcceptsExactly, refused, taken, receipt, store_after, completion_told, AcceptedTells, RefusedKeeps}
+use Rattle.message_rules.specs.Receiver.{brought, Receiver, Receipt, state_allowed, in_range, in_turn, is_expected, start_of, receive_refusal, accepts, Follows, Acceptable, AcceptsExactly, refused, taken, receipt, store_after, completion_told, AcceptedTells, RefusedKeeps}
 use Rattle.message_rules.proofs.ReceiverTests.{receive_tests, accepted_tests}
 
 -- ---- which operations are accepted
@@ -44,16 +41,19 @@ passes_all r st o size state range turn source room =
 
 accepts_all : (r : Receiver) (st : List ℕ) (o : Operation) → Acceptable r st o → receive_refusal r st o ≡ 0
 unfolding state_allowed in_turn is_expected start_of Follows starts
-accepts_all Idle st o h =
-    passes_all Idle st o h.size refl (range_of o.sender o.aid (length o.bytes) h.sender h.aid h.least h.most)
+accepts_all None st o h =
+    passes_all None st o h.size refl (range_of o.sender o.aid (length o.bytes) h.sender h.aid h.least h.most)
     (⊎_elim (λ (q : o.sequence ≡ Single). rw q) (λ (q : o.sequence ≡ First). rw q) h.follows)
     refl
     (let m = h.most in omega arith)
-accepts_all (Pending s a n) st o h =
+accepts_all (Some m) st o h =
+    let s = m.source.sender in
+    let a = m.source.aid in
+    let n = m.count in
     let f : ((o.sequence ≡ Middle) ⊎ (o.sequence ≡ Last)) × (o.sender ≡ s) × (o.aid ≡ a) × (1 ≤ n) × (n + length o.bytes ≤ 4096) = h.follows in
     let u = h.sender in
     let v = h.aid in
-    passes_all (Pending s a n) st o h.size
+    passes_all (Some m) st o h.size
     (rw (source_true s a (omega arith) (omega arith), le-leb 1 n f.3, le-leb n 4096 (omega arith)))
     (range_of o.sender o.aid (length o.bytes) h.sender h.aid h.least h.most)
     (⊎_elim (λ (q : o.sequence ≡ Middle). rw q) (λ (q : o.sequence ≡ Last). rw q) f.0)
@@ -77,8 +77,11 @@ continues Last e = inr refl
 follows : (r : Receiver) (o : Operation) → state_allowed r ≡ true → in_turn r o.sequence ≡ true → is_expected r o.sender o.aid ≡ true
     → start_of r + length o.bytes ≤ 4096 → Follows r o
 unfolding state_allowed in_turn is_expected start_of Follows
-follows Idle o state turn source room = starting o.sequence turn
-follows (Pending s a n) o state turn source room =
+follows None o state turn source room = starting o.sequence turn
+follows (Some m) o state turn source room =
+    let s = m.source.sender in
+    let a = m.source.aid in
+    let n = m.count in
     let t : (is_source s a ≡ true) × ((leb 1 n && leb n 4096) ≡ true) = (and-eq-true_iff (is_source s a) (leb 1 n && leb n 4096)).0 state in
     let u : (leb 1 n ≡ true) × (leb n 4096 ≡ true) = (and-eq-true_iff (leb 1 n) (leb n 4096)).0 t.1 in
     let v : (eqb o.sender s ≡ true) × (eqb o.aid a ≡ true) = (and-eq-true_iff (eqb o.sender s) (eqb o.aid a)).0 source in
@@ -137,7 +140,7 @@ taken_accepted : (q : Sequence) (s a n : ℕ) → (taken q s a n).refusal ≡ 0
 unfolding taken
 taken_accepted q s a n = go (ends q)
   where
-    go : (t : Bool) → (cond {A = Receipt} t (record { refusal = 0; receiver = Idle; completion = Complete s a n }) (record { refusal = 0; receiver = Pending s a n; completion = Incomplete })).refusal ≡ 0
+    go : (t : Bool) → (cond {A = Receipt} t (record { refusal = 0; receiver = None; completion = Some (brought s a n) }) (record { refusal = 0; receiver = Some (brought s a n); completion = None })).refusal ≡ 0
     go true = refl
     go false = refl
 
@@ -171,12 +174,12 @@ stays_allowed r st o h = ⊎_elim on (λ (n : receive_refusal r st o ≢ 0). rw 
 -- what it tells, and the receiver that it leaves
 
 completed : (q : Sequence) (s a n : ℕ) → (q ≡ Single) ⊎ (q ≡ Last)
-    → (completion_told (taken q s a n).completion ≡ s ∷ a ∷ n ∷ []) × ((taken q s a n).receiver ≡ Idle)
+    → (completion_told (taken q s a n).completion ≡ s ∷ a ∷ n ∷ []) × ((taken q s a n).receiver ≡ None)
 unfolding taken ends completion_told
 completed q s a n = ⊎_elim (λ (e : q ≡ Single). rw e (refl, refl)) (λ (e : q ≡ Last). rw e (refl, refl))
 
 left_pending : (q : Sequence) (s a n : ℕ) → (q ≡ First) ⊎ (q ≡ Middle)
-    → (completion_told (taken q s a n).completion ≡ []) × ((taken q s a n).receiver ≡ Pending s a n)
+    → (completion_told (taken q s a n).completion ≡ []) × ((taken q s a n).receiver ≡ Some (brought s a n))
 unfolding taken ends completion_told
 left_pending q s a n = ⊎_elim (λ (e : q ≡ First). rw e (refl, refl)) (λ (e : q ≡ Middle). rw e (refl, refl))
 
@@ -188,13 +191,13 @@ accepted_tells r st o = record {
 
 -- while a message is being received, an operation in range of another sender or with another AID gets 12 where it would start one, and else 11
 pub other_refused : (s a n : ℕ) (st : List ℕ) (o : Operation)
-    → length st ≡ 4096 → state_allowed (Pending s a n) ≡ true → in_range o.sender o.aid (length o.bytes) ≡ true
-    → is_expected (Pending s a n) o.sender o.aid ≡ false → receive_refusal (Pending s a n) st o ≡ cond (starts o.sequence) 12 11
+    → length st ≡ 4096 → state_allowed (Some (brought s a n)) ≡ true → in_range o.sender o.aid (length o.bytes) ≡ true
+    → is_expected (Some (brought s a n)) o.sender o.aid ≡ false → receive_refusal (Some (brought s a n)) st o ≡ cond (starts o.sequence) 12 11
 unfolding in_turn
 other_refused s a n st o size state range source =
-    rw (receive_tests (Pending s a n) st o, eq-eqb (length st) 4096 size, state, range, source) (turn (starts o.sequence))
+    rw (receive_tests (Some (brought s a n)) st o, eq-eqb (length st) 4096 size, state, range, source) (turn (starts o.sequence))
   where
-    turn : (t : Bool) → ◌≡◌ {A = ℕ} (cond (not t) (cond false (cond (leb (start_of (Pending s a n) + length o.bytes) 4096) 0 9) 11) 12) (cond t 12 11)
+    turn : (t : Bool) → ◌≡◌ {A = ℕ} (cond (not t) (cond false (cond (leb (start_of (Some (brought s a n)) + length o.bytes) 4096) 0 9) 11) 12) (cond t 12 11)
     turn true = refl
     turn false = refl
 

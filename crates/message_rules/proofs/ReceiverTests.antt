@@ -12,10 +12,9 @@ use Rattle.order.specs.Refusal.{first_refusal}
 use Rattle.order.proofs.RefusalLaws.{Passes, passed}
 use Rattle.text.specs.Space.{placed}
 use Rattle.text.proofs.SpaceLaws.{placed_room}
-use Rattle.message_rules.specs.declared.Receiver.{Receiver}
-use Rattle.message_rules.specs.declared.Receiver.TheVariants.{Idle, Pending}
+use Rattle.std.specs.Prelude.{Some, None}
 use Rattle.message_rules.specs.Operation.{Operation, is_source}
-use Rattle.message_rules.specs.Receiver.{state_allowed, in_range, in_turn, is_expected, start_of, size_test, state_test, range_test, turn_test, source_test, room_test, receive_refusal}
+use Rattle.message_rules.specs.Receiver.{Receiver, state_allowed, in_range, in_turn, is_expected, start_of, size_test, state_test, range_test, turn_test, source_test, room_test, receive_refusal}
 
 -- the numbers in their order
 pub receive_tests : (r : Receiver) (store : List ℕ) (o : Operation)
@@ -45,8 +44,8 @@ size_small s a n e = at_most (is_source s a) n 256 e
 
 pub start_small : (r : Receiver) → state_allowed r ≡ true → start_of r ≤ 4096
 unfolding state_allowed start_of
-start_small Idle e = omega arith
-start_small (Pending s a n) e = at_most (is_source s a) n 4096 e
+start_small None e = omega arith
+start_small (Some m) e = at_most (is_source m.source.sender m.source.aid) m.count 4096 e
 
 -- ---- an accepted operation
 

@@ -6,7 +6,7 @@ use mathlib.Core.Path.{◌≡◌, refl, sym, ◌∙◌, ap}
 use mathlib.Core.Logic.{⊎_elim}
 use mathlib.Core.Bool.{Bool, true, false, and-eq-true_iff}
 use mathlib.Core.List.{List, [], ◌∷◌, ◌++◌}
-use mathlib.Core.Option.{some}
+use Rattle.std.specs.Prelude.{Some}
 use lib.Dec.{eqb, leb}
 use lib.ListN.{length, drop, replicate, length-take, length-drop, take-append-drop, drop_of_length-le}
 use lib.Seq.{drop-drop}
@@ -51,7 +51,7 @@ division_count m s a e = rw (eq-eqb (send_refusal m s a) 0 e)
 unfoldable pub made : List ℕ → ℕ → ℕ → ℕ → Operation
 made m s a k = operation (sequence_of (operation_count (length m)) k) s a (part_of m k)
 
-operation_made : (m : List ℕ) (s a k : ℕ) → send_refusal m s a ≡ 0 → k < operation_count (length m) → operation_at m s a k ≡ some (made m s a k)
+operation_made : (m : List ℕ) (s a k : ℕ) → send_refusal m s a ≡ 0 → k < operation_count (length m) → operation_at m s a k ≡ Some (made m s a k)
 unfolding made
 operation_made m s a k e h =
     let d = division_count m s a e in

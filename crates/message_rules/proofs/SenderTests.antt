@@ -3,7 +3,7 @@ use Prim.Native.Nat.{ℕ, ◌+◌, ◌-◌, ◌*◌, ◌<◌, ◌≤◌}
 use mathlib.Core.Path.{◌≡◌, refl, sym, ◌∙◌}
 use mathlib.Core.Bool.{Bool, true, false, cond, ◌&&◌}
 use mathlib.Core.List.{List}
-use mathlib.Core.Option.{none, some}
+use Rattle.std.specs.Prelude.{Some, None}
 use native.Mathlib.Omega.{arith}
 use lib.Dec.{eqb, leb}
 use lib.ListN.{length, take, drop, length-drop}
@@ -39,11 +39,11 @@ unfolding part_of
 part_of_256 m k = let e : 256 * k + 256 - 256 * k ≡ 256 = omega arith in rw e
 
 pub operation_found : (m : List ℕ) (s a k : ℕ)
-    → k < (division m s a).operations → operation_at m s a k ≡ some (operation (sequence_of (division m s a).operations k) s a (part_of m k))
+    → k < (division m s a).operations → operation_at m s a k ≡ Some (operation (sequence_of (division m s a).operations k) s a (part_of m k))
 unfolding operation_at
 operation_found m s a k h = rw (lt-ltb _ _ h)
 
-pub operation_none : (m : List ℕ) (s a k : ℕ) → (division m s a).operations ≤ k → operation_at m s a k ≡ none
+pub operation_none : (m : List ℕ) (s a k : ℕ) → (division m s a).operations ≤ k → operation_at m s a k ≡ None
 unfolding operation_at
 operation_none m s a k h = rw (le-ltb _ _ h)
 

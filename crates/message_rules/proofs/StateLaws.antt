@@ -9,17 +9,19 @@ use mathlib.Core.List.{List}
 use lib.Dec.{eqb, leb}
 use lib.ListN.{length}
 use borrow.Author.Tests.{eq-eqb, le-leb, eqb-true, lt-leb}
-use Rattle.message_rules.specs.declared.Receiver.{Receiver}
-use Rattle.message_rules.specs.declared.Receiver.TheVariants.{Idle, Pending}
+use Rattle.std.specs.Prelude.{Some, None}
 use Rattle.message_rules.specs.Operation.{Operation, is_source}
-use Rattle.message_rules.specs.Receiver.{state_allowed, in_range, in_turn, is_expected, start_of, BadPending, RefusesState}
+use Rattle.message_rules.specs.Receiver.{Receiver, state_allowed, in_range, in_turn, is_expected, start_of, BadPending, RefusesState}
 use Rattle.message_rules.proofs.ReceiverTests.{receive_tests}
 use Rattle.message_rules.proofs.ReceiverLaws.{answer_refusal}
 
 bad_state_lem : (r : Receiver) → BadPending r → state_allowed r ≡ false
 unfolding BadPending state_allowed is_source
-bad_state_lem Idle h = absurd h
-bad_state_lem (Pending s a n) h =
+bad_state_lem None h = absurd h
+bad_state_lem (Some m) h =
+    let s = m.source.sender in
+    let a = m.source.aid in
+    let n = m.count in
     ⊎_elim (λ (e : 7 < s). rw (lt-leb s 7 e))
     (⊎_elim (λ (e : 255 < a). rw (lt-leb a 255 e, and-false (leb s 7)))
     (⊎_elim (λ (e : n ≡ 0). rw (lt-leb 1 n (omega arith), and-false (leb s 7 && leb a 255)))
@@ -35,9 +37,18 @@ over n k e = on (dec_lt k n)
 
 state_bad : (r : Receiver) → state_allowed r ≡ false → BadPending r
 unfolding BadPending state_allowed is_source
-state_bad Idle e = false≢true (sym e)
-state_bad (Pending s a n) e = on (leb s 7) (leb a 255) (leb 1 n) (leb n 4096) refl refl refl refl e
+state_bad None e = false≢true (sym e)
+state_bad (Some m) e = on (leb m.source.sender 7) (leb m.source.aid 255) (leb 1 m.count) (leb m.count 4096) refl refl refl refl e
   where
+    s : ℕ
+    s = m.source.sender
+
+    a : ℕ
+    a = m.source.aid
+
+    n : ℕ
+    n = m.count
+
     on : (t u v w : Bool) → leb s 7 ≡ t → leb a 255 ≡ u → leb 1 n ≡ v → leb n 4096 ≡ w → ((t && u) && (v && w)) ≡ false →
         (7 < s) ⊎ ((255 < a) ⊎ ((n ≡ 0) ⊎ (4096 < n)))
     on false u v w p q x y e = inl (over s 7 p)

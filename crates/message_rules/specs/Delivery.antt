@@ -1,12 +1,9 @@
 -- What sender and receiver promise together (document 02, T-01): "what it cuts, given in order to one idle receiver with nothing between, must come
 -- together again with its sender and AID"; and with refused operations between, all the same.
-use Rattle.std.specs.Prelude.{ℕ, ◌-◌, ◌≤◌, ◌≡◌, ◌≢◌, ◌⊎◌, cond, List, [], ◌∷◌, ◌++◌, map, eqb, length, drop, replicate}
+use Rattle.std.specs.Prelude.{ℕ, ◌-◌, ◌≤◌, ◌≡◌, ◌≢◌, ◌⊎◌, cond, List, [], ◌∷◌, ◌++◌, map, None, eqb, length, drop, replicate}
 use Rattle.order.specs.Refusal.{accepted, other_source, out_of_turn}
-use Rattle.message_rules.specs.declared.Receiver.{Receiver}
-use Rattle.message_rules.specs.declared.Receiver.TheVariants.{Idle}
-use Rattle.message_rules.specs.declared.Receipt.{Receipt}
 use Rattle.message_rules.specs.Operation.{Operation}
-use Rattle.message_rules.specs.Receiver.{receive_refusal, receipt, store_after, completion_told}
+use Rattle.message_rules.specs.Receiver.{Receiver, Receipt, receive_refusal, receipt, store_after, completion_told}
 use Rattle.message_rules.specs.Sender.{Sendable, division, operations}
 
 -- ---- operations one after the other: each gets the receiver and the store as the one before left them
@@ -34,7 +31,7 @@ pub record Delivered (m : List ℕ) (s a : ℕ) (st : List ℕ) (answers : List 
   pub accepts : map (λ x. x.refusal) answers ≡ replicate (division m s a).operations accepted
   -- only the last completes: it tells the sender, the AID and the message's length
   pub completes : map (λ x. completion_told x.completion) answers ≡ replicate ((division m s a).operations - 1) [] ++ (s ∷ a ∷ length m ∷ []) ∷ []
-  pub idle : r ≡ Idle
+  pub idle : r ≡ None
   -- the message from byte 0 on; "the store's other bytes stay"
   pub store : st' ≡ m ++ drop (length m) st
 
@@ -42,7 +39,7 @@ pub record Delivered (m : List ℕ) (s a : ℕ) (st : List ℕ) (answers : List 
 unfoldable pub Delivers : Type 0
 Delivers =
     (m : List ℕ) (s a : ℕ) (st : List ℕ) → Sendable m s a → length st ≡ 4096
-    → let os = operations m s a in Delivered m s a st (receipts Idle st os) (receiver_left Idle st os) (store_left Idle st os)
+    → let os = operations m s a in Delivered m s a st (receipts None st os) (receiver_left None st os) (store_left None st os)
 
 -- ---- with others between
 
@@ -64,8 +61,8 @@ kept (x ∷ xs) = cond (eqb x.refusal accepted) (x ∷ kept xs) (kept xs)
 unfoldable pub DeliversInterleaved : Type 0
 DeliversInterleaved =
     (m : List ℕ) (s a : ℕ) (st : List ℕ) (given : List Operation) → Sendable m s a → length st ≡ 4096
-    → Interleaved Idle st (operations m s a) given
-    → Delivered m s a st (kept (receipts Idle st given)) (receiver_left Idle st given) (store_left Idle st given)
+    → Interleaved None st (operations m s a) given
+    → Delivered m s a st (kept (receipts None st given)) (receiver_left None st given) (store_left None st given)
 
 -- an operation in range that has another sender than s or another AID than a
 pub record Foreign (s a : ℕ) (o : Operation) : Type 0 where
@@ -95,9 +92,9 @@ Each P (x ∷ xs) = P x × Each P xs
 
 -- operations of others, given between the first and the last, are refused with 11 or 12 and disturb nothing
 pub record OthersRefused (m : List ℕ) (s a : ℕ) (st : List ℕ) (given : List Operation) : Type 0 where
-  pub numbers : Each (λ x. (x.refusal ≡ accepted) ⊎ ((x.refusal ≡ other_source) ⊎ (x.refusal ≡ out_of_turn))) (receipts Idle st given)
-  pub interleaved : Interleaved Idle st (operations m s a) given
-  pub delivered : Delivered m s a st (kept (receipts Idle st given)) (receiver_left Idle st given) (store_left Idle st given)
+  pub numbers : Each (λ x. (x.refusal ≡ accepted) ⊎ ((x.refusal ≡ other_source) ⊎ (x.refusal ≡ out_of_turn))) (receipts None st given)
+  pub interleaved : Interleaved None st (operations m s a) given
+  pub delivered : Delivered m s a st (kept (receipts None st given)) (receiver_left None st given) (store_left None st given)
 
 unfoldable pub RefusesOthers : Type 0
 RefusesOthers =

@@ -1,5 +1,5 @@
 -- An operation of a message transfer (ISO/IEC 14576, 4.2.2, item 5, and Table 6; document 02, T-01): what sender and receiver both speak of.
-use Rattle.std.specs.Prelude.{ℕ, ◌+◌, ◌*◌, ◌≡◌, Bool, true, false, ◌&&◌, List, leb}
+use Rattle.std.specs.Prelude.{ℕ, ◌+◌, ◌*◌, ◌≤◌, ◌≡◌, Bool, true, false, cond, ◌&&◌, List, Option, Some, None, eqb, leb}
 use Rattle.message_rules.specs.declared.Sequence.{Sequence}
 use Rattle.message_rules.specs.declared.Sequence.TheVariants.{Single, First, Middle, Last}
 
@@ -31,6 +31,16 @@ sequence_number Single = 0
 sequence_number First = 1
 sequence_number Middle = 2
 sequence_number Last = 3
+
+-- the sequence that has the number n
+unfoldable pub sequence_numbered : ℕ → Option Sequence
+sequence_numbered n = cond (eqb n 0) (Some Single) (cond (eqb n 1) (Some First) (cond (eqb n 2) (Some Middle) (cond (eqb n 3) (Some Last) None)))
+
+-- the sequences and the numbers to 3 determine each other
+pub record SequenceNumbers : Type 0 where
+  pub back : (q : Sequence) → sequence_numbered (sequence_number q) ≡ Some q
+  pub forth : (n : ℕ) (q : Sequence) → sequence_numbered n ≡ Some q → sequence_number q ≡ n
+  pub most : (q : Sequence) → sequence_number q ≤ 3
 
 -- Table 6, row by row: bit 20, bit 21 and the meaning; bit 20 is the more significant
 pub record TableSix : Type 0 where

@@ -1,12 +1,9 @@
 -- The sender (document 02, T-01; ISO/IEC 14576, 4.2.2): which operations a message makes, "full operations first".
-use Rattle.std.specs.Prelude.{ℕ, zero, suc, ◌+◌, ◌-◌, ◌*◌, ◌/◌, ◌<◌, ◌≤◌, ◌≡◌, cond, ◌&&◌, ◌≢◌, List, [], ◌∷◌, ◌++◌, map, eqb, leb, ltb, length, take, drop, replicate}
-use Rattle.std.proofs.Math.Option.{Option, none, some}
-use Rattle.order.specs.Refusal.{accepted, field_range, no_room, Test, first_refusal}
+use Rattle.std.specs.Prelude.{ℕ, zero, suc, ◌+◌, ◌-◌, ◌*◌, ◌/◌, ◌<◌, ◌≤◌, ◌≡◌, cond, ◌&&◌, ◌≢◌, List, [], ◌∷◌, ◌++◌, map, Option, Some, None, Result, Ok, Err, eqb, leb, ltb, length, take, drop, replicate}
+use Rattle.order.specs.declared.Refusal.{Refusal}
+use Rattle.order.specs.Refusal.{refusal_number, accepted, field_range, no_room, Test, first_refusal}
 use Rattle.message_rules.specs.declared.Sequence.{Sequence}
 use Rattle.message_rules.specs.declared.Sequence.TheVariants.{Single, First, Middle, Last}
-use Rattle.message_rules.specs.declared.Division.{Division}
-use Rattle.message_rules.specs.declared.SequenceFound.{SequenceFound}
-use Rattle.message_rules.specs.declared.SequenceFound.TheVariants.{Known, Nothing}
 use Rattle.message_rules.specs.Operation.{Operation, operation, operation_most, message_most, is_source, sequence_number}
 
 -- "The sender refuses an empty message, or a sender or AID out of range, with 8, then one over 4,096 bytes with 9."
@@ -35,11 +32,25 @@ pub record SendsExactly (m : List ℕ) (s a : ℕ) : Type 0 where
 unfoldable pub operation_count : ℕ → ℕ
 operation_count n = (n + 255) / operation_most
 
+-- an answer in document 01's numbers: the number of refusal or 0, and how many operations
+pub record Division : Type 0 where
+  pub refusal : ℕ
+  pub operations : ℕ
+
 unfoldable pub division : List ℕ → ℕ → ℕ → Division
 division m s a =
     cond (eqb (send_refusal m s a) accepted)
     (record { refusal = accepted; operations = operation_count (length m) })
     (record { refusal = send_refusal m s a; operations = 0 })
+
+-- the code's answer: a refused message makes no operation
+abbrev pub division_told : Result ℕ Refusal → Division
+division_told (Ok n) = record { refusal = accepted; operations = n }
+division_told (Err refusal) = record { refusal = refusal_number refusal; operations = 0 }
+
+-- different answers of the code are told differently
+unfoldable pub DivisionsApart : Type 0
+DivisionsApart = (x y : Result ℕ Refusal) → division_told x ≡ division_told y → x ≡ y
 
 -- a refused message makes no operation: the whole answer
 unfoldable pub RefusedMakesNone : Type 0
@@ -56,17 +67,17 @@ part_of m k = take operation_most (drop (operation_most * k) m)
 -- operation k of the message, if it makes so many
 unfoldable pub operation_at : List ℕ → ℕ → ℕ → ℕ → Option Operation
 operation_at m s a k =
-    cond (ltb k (division m s a).operations) (some (operation (sequence_of (division m s a).operations k) s a (part_of m k))) none
+    cond (ltb k (division m s a).operations) (Some (operation (sequence_of (division m s a).operations k) s a (part_of m k))) None
 
 -- its sequence; where there is no such operation, nothing
-unfoldable pub sequence_found : Option Operation → SequenceFound
-sequence_found none = Nothing
-sequence_found (some o) = Known o.sequence
+unfoldable pub sequence_found : Option Operation → Option Sequence
+sequence_found None = None
+sequence_found (Some o) = Some o.sequence
 
 -- its bytes; where there is no such operation, an empty part
 unfoldable pub part_found : Option Operation → List ℕ
-part_found none = []
-part_found (some o) = o.bytes
+part_found None = []
+part_found (Some o) = o.bytes
 
 -- where its bytes start in the message; where there is no such operation, at the message's start
 unfoldable pub part_offset : List ℕ → ℕ → ℕ → ℕ → ℕ
@@ -74,8 +85,8 @@ part_offset m s a k = cond (ltb k (division m s a).operations) (operation_most *
 
 -- an operation, where there is one, before others
 unfoldable pub collected : Option Operation → List Operation → List Operation
-collected none os = os
-collected (some o) os = o ∷ os
+collected None os = os
+collected (Some o) os = o ∷ os
 
 -- the operations of a message from k on, n of them
 unfoldable pub operations_from : List ℕ → ℕ → ℕ → ℕ → ℕ → List Operation
