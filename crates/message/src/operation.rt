@@ -2,33 +2,26 @@
 ghost use Rattle.std.specs.Prelude.{◌≡◌};
 ghost use Rattle.message_rules.specs.Operation.{is_source, starts, ends};
 
-use message_rules::Sequence;
+use message_rules::{Sequence, Source};
 
 // Whether there are such a sender and such an AID.
-pub(crate) fn is_source(sender: u8, aid: u16) -> bool
-    ensures { result ≡ is_source sender aid }
+#[tactic(auto, unfolding(message_rules::specs::Operation::is_source))]
+pub(crate) fn is_source(source: Source) -> bool
+    ensures { result ≡ is_source source.sender source.aid }
 {
-    (sender <= 7) & (aid <= 255)
+    source.sender <= 7 && source.aid <= 255
 }
 
+#[tactic(auto, unfolding(message_rules::specs::Operation::starts))]
 pub(crate) fn is_start(sequence: Sequence) -> bool
     ensures { result ≡ starts sequence }
 {
-    match sequence {
-        Sequence::Single => true,
-        Sequence::First => true,
-        Sequence::Middle => false,
-        Sequence::Last => false,
-    }
+    matches!(sequence, Sequence::Single | Sequence::First)
 }
 
+#[tactic(auto, unfolding(message_rules::specs::Operation::ends))]
 pub(crate) fn is_end(sequence: Sequence) -> bool
     ensures { result ≡ ends sequence }
 {
-    match sequence {
-        Sequence::Single => true,
-        Sequence::First => false,
-        Sequence::Middle => false,
-        Sequence::Last => true,
-    }
+    matches!(sequence, Sequence::Single | Sequence::Last)
 }

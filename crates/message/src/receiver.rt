@@ -1,138 +1,104 @@
 // The receiving board's side: one operation at a time.
 ghost use Rattle.std.specs.Prelude.{◌≡◌};
+ghost use Rattle.order.specs.Refusal.{number_of};
 ghost use Rattle.message_rules.specs.Operation.{operation};
-ghost use Rattle.message_rules.specs.Receiver.{state_allowed, in_range, in_turn, is_expected, start_of, receive_refusal, taken, receipt, store_after};
+ghost use Rattle.message_rules.specs.Receiver.{state_allowed, in_range, in_turn, is_expected, start_of, receive_refusal, receipt_told, receipt, store_after};
 
 use crate::operation::{is_end, is_source, is_start};
-use message_rules::{Completion, Receipt, Receiver, Sequence};
-use order::{BAD_STATE, FIELD_RANGE, NO_ROOM, OTHER_SOURCE, OUT_OF_TURN, WRONG_SIZE};
+use message_rules::{Accepted, Received, Receiver, Sequence, Source};
+use order::Refusal;
 use text::space::put_word;
 
 // One operation. Its bytes go into the store behind those of the same message. A refused one leaves receiver and store as they were.
+#[tactic(auto, using(crate::proofs::ReceiveLaws::refused_told, crate::proofs::ReceiveLaws::refused_kept, crate::proofs::ReceiveLaws::accepted_room, crate::proofs::ReceiveLaws::complete_told, crate::proofs::ReceiveLaws::pending_told, crate::proofs::ReceiveLaws::accepted_kept))]
 pub fn receive(
     receiver: Receiver,
     store: &mut [u8],
     sequence: Sequence,
-    sender: u8,
-    aid: u16,
+    source: Source,
     bytes: &[u8],
-) -> Receipt
-    ensures { (result ≡ receipt receiver store.old (operation sequence sender aid bytes.now)) × (store.new ≡ store_after receiver store.old (operation sequence sender aid bytes.now)) }
+) -> Result<Accepted, Refusal>
+    ensures answer { receipt_told receiver result ≡ receipt receiver store.old (operation sequence source.sender source.aid bytes.now) }
+    ensures store { store.new ≡ store_after receiver store.old (operation sequence source.sender source.aid bytes.now) }
 {
-    let refusal = refusal_of(receiver, store, sequence, sender, aid, bytes);
-    if refusal == 0 {
-        let start = start_of(receiver);
-        let count = start + put_word(store, start, bytes);
-        take(sequence, sender, aid, count)
+    check(receiver, store, sequence, source, bytes)?;
+    let start = start_of(receiver);
+    let count = start + put_word(store, start, bytes);
+    let message = Some(Received { source, count });
+    let (receiver, completion) = if is_end(sequence) {
+        (None, message)
     } else {
-        Receipt {
-            refusal,
-            receiver,
-            completion: Completion::Incomplete, // a refused operation completes nothing
-        }
-    }
+        (message, None)
+    };
+    Ok(Accepted {
+        receiver,
+        completion,
+    })
 }
 
-// The answer to an accepted operation with which the message has `count` bytes.
-fn take(sequence: Sequence, sender: u8, aid: u16, count: usize) -> Receipt
-    ensures { result ≡ taken sequence sender aid count }
-{
-    if is_end(sequence) {
-        Receipt {
-            refusal: 0,
-            receiver: Receiver::Idle,
-            completion: Completion::Complete {
-                sender,
-                aid,
-                length: count,
-            },
-        }
-    } else {
-        Receipt {
-            refusal: 0,
-            receiver: Receiver::Pending { sender, aid, count },
-            completion: Completion::Incomplete,
-        }
-    }
-}
-
-// The number of the first test that fails, 0 if none does.
-fn refusal_of(
+// The first test that fails refuses the operation.
+#[tactic(auto, unfolding(message_rules::specs::Operation::operation), using(message_rules::proofs::ReceiverTests::receive_tests, message_rules::proofs::ReceiverTests::start_small, message_rules::proofs::ReceiverTests::size_small))]
+fn check(
     receiver: Receiver,
     store: &[u8],
     sequence: Sequence,
-    sender: u8,
-    aid: u16,
+    source: Source,
     bytes: &[u8],
-) -> u8
-    ensures { result ≡ receive_refusal receiver store.now (operation sequence sender aid bytes.now) }
+) -> Result<(), Refusal>
+    ensures { number_of result ≡ receive_refusal receiver store.now (operation sequence source.sender source.aid bytes.now) }
 {
     if store.len() != 4096 {
-        return WRONG_SIZE;
+        return Err(Refusal::WrongSize);
     }
     if !is_allowed(receiver) {
-        return BAD_STATE;
+        return Err(Refusal::BadState);
     }
-    if !is_in_range(sender, aid, bytes.len()) {
-        return FIELD_RANGE;
+    if !is_in_range(source, bytes.len()) {
+        return Err(Refusal::FieldRange);
     }
     if !is_in_turn(receiver, sequence) {
-        return OUT_OF_TURN;
+        return Err(Refusal::OutOfTurn);
     }
-    if !is_expected(receiver, sender, aid) {
-        return OTHER_SOURCE;
+    if !is_expected(receiver, source) {
+        return Err(Refusal::OtherSource);
     }
-    if start_of(receiver) + bytes.len() <= 4096 {
-        0
-    } else {
-        NO_ROOM
+    if start_of(receiver) + bytes.len() > 4096 {
+        return Err(Refusal::NoRoom);
     }
+    Ok(())
 }
 
+#[tactic(auto, unfolding(message_rules::specs::Receiver::state_allowed))]
 fn is_allowed(receiver: Receiver) -> bool
     ensures { result ≡ state_allowed receiver }
 {
-    match receiver {
-        Receiver::Idle => true,
-        Receiver::Pending { sender, aid, count } => {
-            is_source(sender, aid) & ((1 <= count) & (count <= 4096))
-        }
-    }
+    receiver.is_none_or(|message| is_source(message.source) && (1..=4096).contains(&message.count))
 }
 
-fn is_in_range(sender: u8, aid: u16, size: usize) -> bool
-    ensures { result ≡ in_range sender aid size }
+#[tactic(auto, unfolding(message_rules::specs::Receiver::in_range))]
+fn is_in_range(source: Source, size: usize) -> bool
+    ensures { result ≡ in_range source.sender source.aid size }
 {
-    is_source(sender, aid) & ((1 <= size) & (size <= 256))
+    is_source(source) && (1..=256).contains(&size)
 }
 
+#[tactic(auto, unfolding(message_rules::specs::Receiver::in_turn))]
 fn is_in_turn(receiver: Receiver, sequence: Sequence) -> bool
     ensures { result ≡ in_turn receiver sequence }
 {
-    match receiver {
-        Receiver::Idle => is_start(sequence),
-        Receiver::Pending { .. } => !is_start(sequence),
-    }
+    is_start(sequence) == receiver.is_none()
 }
 
-fn is_expected(receiver: Receiver, sender: u8, aid: u16) -> bool
-    ensures { result ≡ is_expected receiver sender aid }
+#[tactic(auto, unfolding(message_rules::specs::Receiver::is_expected))]
+fn is_expected(receiver: Receiver, source: Source) -> bool
+    ensures { result ≡ is_expected receiver source.sender source.aid }
 {
-    match receiver {
-        Receiver::Idle => true,
-        Receiver::Pending {
-            sender: s,
-            aid: a,
-            ..
-        } => (sender == s) & (aid == a),
-    }
+    receiver.is_none_or(|message| source == message.source)
 }
 
+#[tactic(auto, unfolding(message_rules::specs::Receiver::start_of))]
 fn start_of(receiver: Receiver) -> usize
     ensures { result ≡ start_of receiver }
 {
-    match receiver {
-        Receiver::Idle => 0,
-        Receiver::Pending { count, .. } => count,
-    }
+    receiver.map_or(0, |message| message.count)
 }

@@ -1,6 +1,7 @@
 -- The sender's tests in their order, and which operations there are.
-use Prim.Native.Nat.{ℕ, ◌+◌, ◌-◌, ◌*◌, ◌<◌, ◌≤◌}
-use mathlib.Core.Path.{◌≡◌, refl, sym, ◌∙◌}
+use Prim.Native.Nat.{ℕ, ◌-◌, ◌*◌, ◌<◌, ◌≤◌, min}
+use native.Mathlib.Decide.{dec_lt}
+use mathlib.Core.Path.{◌≡◌, refl, sym, ap, ◌∙◌}
 use mathlib.Core.Bool.{Bool, true, false, cond, ◌&&◌}
 use mathlib.Core.List.{List}
 use Rattle.std.specs.Prelude.{Some, None}
@@ -26,17 +27,21 @@ refused_makes_none m s a h = rw (ne_eqb (send_refusal m s a) 0 h)
 
 -- ---- operation k of a message
 
--- fewer than 256 bytes from its start on: all of them
-pub part_to_end : (m : List ℕ) (k : ℕ) → length m - 256 * k < 256 → take (length m - 256 * k) (drop (256 * k) m) ≡ part_of m k
+-- its bytes are the first 256 of the rest of the message, or all of them where there are no more
+pub part_front : (m : List ℕ) (k n : ℕ) → n ≡ min (length (take (length m - 256 * k) (drop (256 * k) m))) 256
+    → take n (take (length m - 256 * k) (drop (256 * k) m)) ≡ part_of m k
 unfolding part_of
-part_to_end m k h =
-    let e : length (drop (256 * k) m) ≡ length m - 256 * k = length-drop (256 * k) m in
-    take_all (length m - 256 * k) (drop (256 * k) m) (omega arith) ∙ sym (take_all 256 (drop (256 * k) m) (omega arith))
+part_front m k n e = ap (take n) all ∙ on (dec_lt (length m - 256 * k) 256)
+  where
+    l : length (drop (256 * k) m) ≡ length m - 256 * k
+    l = length-drop (256 * k) m
 
--- and else 256
-pub part_of_256 : (m : List ℕ) (k : ℕ) → take (256 * k + 256 - 256 * k) (drop (256 * k) m) ≡ part_of m k
-unfolding part_of
-part_of_256 m k = let e : 256 * k + 256 - 256 * k ≡ 256 = omega arith in rw e
+    all : take (length m - 256 * k) (drop (256 * k) m) ≡ drop (256 * k) m
+    all = take_all (length m - 256 * k) (drop (256 * k) m) (omega (arith, l))
+
+    on : Dec (length m - 256 * k < 256) → take n (drop (256 * k) m) ≡ take 256 (drop (256 * k) m)
+    on (yes h) = take_all n (drop (256 * k) m) (omega (arith, l, ap length all)) ∙ sym (take_all 256 (drop (256 * k) m) (omega (arith, l)))
+    on (no h) = let f : n ≡ 256 = omega (arith, l, ap length all) in ap (λ (i : ℕ). take i (drop (256 * k) m)) f
 
 pub operation_found : (m : List ℕ) (s a k : ℕ)
     → k < (division m s a).operations → operation_at m s a k ≡ Some (operation (sequence_of (division m s a).operations k) s a (part_of m k))

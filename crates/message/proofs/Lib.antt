@@ -1,0 +1,2 @@
+-- What the receiver's answers come to.
+pub mod ReceiveLaws
