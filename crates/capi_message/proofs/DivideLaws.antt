@@ -7,10 +7,9 @@ use native.Mathlib.Omega.{arith}
 use lib.Dec.{eqb, ltb}
 use lib.ListN.{length, take, drop, length-take, length-drop}
 use lib.Seq.{take-take, take-length}
-use borrow.Author.Tests.{eq-eqb, ne_eqb}
-use Rattle.message_rules.specs.declared.Division.{Division}
+use borrow.Author.Tests.{eq-eqb, ne_eqb, lt-ltb, le-ltb}
 use Rattle.message_rules.specs.Operation.{operation}
-use Rattle.message_rules.specs.Sender.{operation_count, division, part_of, operation_at, part_found, part_offset}
+use Rattle.message_rules.specs.Sender.{Division, operation_count, division, part_of, operation_at, part_found, part_offset}
 use Rattle.message_rules.proofs.SenderTests.{operation_found, operation_none}
 use Rattle.message_rules.proofs.SenderLaws.{division_refusal, division_count}
 use Rattle.crossing.specs.Capped.{capped}
@@ -30,6 +29,15 @@ module _ (m : List ℕ) (s a : ℕ) (d : Division) (e : d ≡ division m (capped
   divide_accepted h = ap (λ (n : ℕ). eqb n 0) (sym divide_returned_lem) ∙ eq-eqb _ 0 h
 
 -- ---- an operation's bytes
+
+-- where they start; n operations are made
+pub offset_within : (m : List ℕ) (s a k n : ℕ) → n ≡ (division m s a).operations → k < n → 256 * k ≡ part_offset m s a k
+unfolding part_offset
+offset_within m s a k n e h = rw (lt-ltb k (division m s a).operations (omega arith))
+
+pub offset_past : (m : List ℕ) (s a k n : ℕ) → n ≡ (division m s a).operations → n ≤ k → 0 ≡ part_offset m s a k
+unfolding part_offset
+offset_past m s a k n e h = rw (le-ltb k (division m s a).operations (omega arith))
 
 -- how many operations an accepted message makes
 count : (m : List ℕ) (s a : ℕ) → (division m s a).refusal ≡ 0 → (division m s a).operations ≡ (length m + 255) / 256

@@ -11,10 +11,9 @@ use Rattle.crossing.specs.Capped.{capped}
 use Rattle.crossing.proofs.CappedLaws.{caps}
 use Rattle.message_rules.specs.declared.Sequence.{Sequence}
 use Rattle.message_rules.specs.declared.Sequence.TheVariants.{Single, First, Middle, Last}
-use Rattle.message_rules.specs.declared.Receiver.{Receiver}
-use Rattle.message_rules.specs.declared.Receiver.TheVariants.{Idle, Pending}
+use Rattle.std.specs.Prelude.{Some, None}
 use Rattle.message_rules.specs.Operation.{is_source, sequence_number}
-use Rattle.message_rules.specs.Receiver.{state_allowed}
+use Rattle.message_rules.specs.Receiver.{Receiver, brought, state_allowed}
 use Rattle.capi_message.specs.Layout.{no_receiver, receiver_numbers, receiver_of, receiver_from, Fits, Inverse, Narrows}
 use Rattle.capi_message.specs.Operation.{sequence_from, operation_sender, Numbered}
 
@@ -30,9 +29,10 @@ uncapped most limit n h e =
 
 back : (r : Receiver) (t : List ℕ) → Fits r → receiver_from (receiver_numbers r ++ t) ≡ r
 unfolding receiver_from receiver_of receiver_numbers Fits
-back Idle t f = refl
-back (Pending s a n) t f =
-    ap (λ (x : ℕ). Pending x (capped 65535 a) n) ((caps 255).keeps s f.0) ∙ ap (λ (x : ℕ). Pending s x n) ((caps 65535).keeps a f.1)
+back None t f = refl
+back (Some m) t f =
+    ap (λ (x : ℕ). Some (brought x (capped 65535 m.source.aid) m.count)) ((caps 255).keeps m.source.sender f.0)
+    ∙ ap (λ (x : ℕ). Some (brought m.source.sender x m.count)) ((caps 65535).keeps m.source.aid f.1)
 
 -- numbers whose receiver is allowed are that receiver's
 forth_of : (k s a n : ℕ) → state_allowed (receiver_of k s a n) ≡ true → receiver_numbers (receiver_of k s a n) ≡ k ∷ s ∷ a ∷ n ∷ []
@@ -40,7 +40,7 @@ unfolding receiver_numbers receiver_of state_allowed is_source
 forth_of k s a n = go (eqb k 0) (eqb k 1) (eqb s 0) (eqb a 0) (eqb n 0) refl refl refl refl refl
   where
     go : (p q x y z : Bool) → eqb k 0 ≡ p → eqb k 1 ≡ q → eqb s 0 ≡ x → eqb a 0 ≡ y → eqb n 0 ≡ z
-        → let r : Receiver = cond p (cond (x && (y && z)) Idle no_receiver) (cond q (Pending (capped 255 s) (capped 65535 a) n) no_receiver) in
+        → let r : Receiver = cond p (cond (x && (y && z)) None no_receiver) (cond q (Some (brought (capped 255 s) (capped 65535 a) n)) no_receiver) in
         state_allowed r ≡ true → receiver_numbers r ≡ k ∷ s ∷ a ∷ n ∷ []
     go true q true true true e f g h i t = rw (eqb-true k 0 e, eqb-true s 0 g, eqb-true a 0 h, eqb-true n 0 i)
     go true q false y z e f g h i t = absurd (false≢true t)

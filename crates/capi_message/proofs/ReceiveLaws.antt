@@ -7,13 +7,17 @@ use Prim.Native.Nat.{ℕ, ◌≤◌, ◌<◌}
 use native.Mathlib.Omega.{arith}
 use lib.Dec.{leb, eqb}
 use lib.ListN.{length, drop}
-use borrow.Author.Tests.{le-leb, lt-leb, leb-true, eqb-true, eqb-false}
+use borrow.Author.Tests.{ne_eqb, le-leb, lt-leb, leb-true, eqb-true, eqb-false}
+use Rattle.std.specs.Prelude.{Option, Some, None, Ok, Err}
+use Rattle.order.specs.declared.Refusal.{Refusal}
+use Rattle.order.specs.Refusal.{refusal_number}
 use Rattle.crossing.specs.Capped.{capped}
+use Rattle.message_rules.specs.declared.Received.{Received}
+use Rattle.message_rules.specs.declared.Accepted.{Accepted}
+use Rattle.message_rules.proofs.AnswerLaws.{refused_some}
 use Rattle.message_rules.specs.declared.Sequence.{Sequence}
-use Rattle.message_rules.specs.declared.Receiver.{Receiver}
-use Rattle.message_rules.specs.declared.Receipt.{Receipt}
 use Rattle.message_rules.specs.Operation.{Operation, operation, ends}
-use Rattle.message_rules.specs.Receiver.{receive_refusal, taken, receipt, refused, store_after}
+use Rattle.message_rules.specs.Receiver.{Receiver, Receipt, receipt_told, completion_told, receive_refusal, taken, receipt, refused, store_after}
 use Rattle.message_rules.proofs.ReceiverLaws.{accepted_answer, refused_answer, refused_store, answer_refusal}
 use Rattle.capi_message.specs.Layout.{receiver_from, receiver_numbers, completion_numbers, Fits}
 use Rattle.capi_message.specs.Operation.{operation_from, operation_sender}
@@ -47,6 +51,12 @@ no_room_lem r st o c e = record { code = rw e; receiver = rw e; store = rw e; co
 
 -- ---- the answer handed over
 
+-- a completion has the numbers that a receiver of as many bytes has
+completion_as : (m : Option Received) → completion_numbers m ≡ receiver_numbers m
+unfolding completion_numbers receiver_numbers completion_told
+completion_as None = refl
+completion_as (Some m) = refl
+
 -- a refused operation leaves receiver and store
 kept : (r : Receiver) (st : List ℕ) (o : Operation) → eqb (receipt r st o).refusal 0 ≡ false
     → ((receipt r st o).receiver ≡ r) × (store_after r st o ≡ st)
@@ -71,6 +81,21 @@ handed_over r st o c x n r' st' c' l e f t =
     go : (b : Bool) → eqb y.refusal 0 ≡ b → st' ≡ cond (eqb y.refusal 0) (store_after (receiver_from r) st o) st
     go true q = rw q f
     go false q = rw q (f ∙ (kept (receiver_from r) st o q).1)
+
+-- an accepted operation's
+pub accepted_left : (r st : List ℕ) (o : Operation) (c : List ℕ) (x : Accepted) (r' st' c' : List ℕ) → spaced r c ≡ true
+    → receipt_told (receiver_from r) (Ok x) ≡ receipt (receiver_from r) st o → st' ≡ store_after (receiver_from r) st o
+    → r' ≡ receiver_numbers x.receiver ++ drop 4 r → c' ≡ receiver_numbers x.completion ++ drop 4 c → Left r st o c 0 r' st' c'
+accepted_left r st o c x r' st' c' l e f g h =
+    handed_over r st o c (receipt_told (receiver_from r) (Ok x)) 0 r' st' c' l e f (refl, g, h ∙ ap (λ (n : List ℕ). n ++ drop 4 c) (sym (completion_as x.completion)))
+
+-- and a refused one's
+pub refused_left : (r st : List ℕ) (o : Operation) (c : List ℕ) (e : Refusal) (n : ℕ) (st' : List ℕ) → spaced r c ≡ true
+    → receipt_told (receiver_from r) (Err e) ≡ receipt (receiver_from r) st o → st' ≡ store_after (receiver_from r) st o → n ≡ refusal_number e
+    → Left r st o c n r st' c
+refused_left r st o c e n st' l h f k =
+    let z : eqb (refusal_number e) 0 ≡ false = ne_eqb _ 0 (λ q. absurd (omega (arith, refused_some e, q))) in
+    handed_over r st o c (receipt_told (receiver_from r) (Err e)) n r st' c l h f (k, rw z refl, rw z refl)
 
 -- ---- calls that follow on each other
 

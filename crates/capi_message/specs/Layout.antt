@@ -1,12 +1,9 @@
 -- A receiver and a completion as a caller lends them, four numbers each.
-use Rattle.std.specs.Prelude.{ℕ, ◌≤◌, ◌≡◌, true, cond, ◌&&◌, List, [], ◌∷◌, ◌++◌, length, get_or, take, eqb}
+use Rattle.std.specs.Prelude.{ℕ, ◌≤◌, ◌≡◌, true, cond, ◌&&◌, List, [], ◌∷◌, ◌++◌, Option, Some, None, length, get_or, take, eqb}
 use Rattle.crossing.specs.Capped.{capped}
-use Rattle.message_rules.specs.declared.Receiver.{Receiver}
-use Rattle.message_rules.specs.declared.Receiver.TheVariants.{Idle, Pending}
-use Rattle.message_rules.specs.declared.Completion.{Completion}
-use Rattle.message_rules.specs.declared.Completion.TheVariants.{Incomplete, Complete}
+use Rattle.message_rules.specs.declared.Received.{Received}
 use Rattle.message_rules.specs.Operation.{is_source}
-use Rattle.message_rules.specs.Receiver.{state_allowed, completion_told}
+use Rattle.message_rules.specs.Receiver.{Receiver, brought, state_allowed, completion_told}
 
 -- a sender in a byte and an AID in two: any above becomes the most, which is out of range too, so that the tests of both stay
 unfoldable pub Narrows : Type 0
@@ -20,17 +17,17 @@ receiver_size = 4
 
 -- 0 idle; 1 pending, with sender, AID and byte count
 unfoldable pub receiver_numbers : Receiver → List ℕ
-receiver_numbers Idle = 0 ∷ 0 ∷ 0 ∷ 0 ∷ []
-receiver_numbers (Pending s a n) = 1 ∷ s ∷ a ∷ n ∷ []
+receiver_numbers None = 0 ∷ 0 ∷ 0 ∷ 0 ∷ []
+receiver_numbers (Some m) = 1 ∷ m.source.sender ∷ m.source.aid ∷ m.count ∷ []
 
 -- what numbers that stand for no receiver are taken for: "a pending state with a sender above 7", refused with 10
 abbrev pub no_receiver : Receiver
-no_receiver = Pending 255 0 0
+no_receiver = Some (brought 255 0 0)
 
 unfoldable pub receiver_of : ℕ → ℕ → ℕ → ℕ → Receiver
 receiver_of state s a n =
-    cond (eqb state 0) (cond (eqb s 0 && (eqb a 0 && eqb n 0)) Idle no_receiver)
-    (cond (eqb state 1) (Pending (capped 255 s) (capped 65535 a) n) no_receiver)
+    cond (eqb state 0) (cond (eqb s 0 && (eqb a 0 && eqb n 0)) None no_receiver)
+    (cond (eqb state 1) (Some (brought (capped 255 s) (capped 65535 a) n)) no_receiver)
 
 -- the receiver that the first four numbers stand for
 unfoldable pub receiver_from : List ℕ → Receiver
@@ -38,8 +35,8 @@ receiver_from l = receiver_of (get_or l 0 0) (get_or l 1 0) (get_or l 2 0) (get_
 
 -- its sender and its AID are numbers that their types hold
 unfoldable pub Fits : Receiver → Type 0
-Fits Idle = Unit {0}
-Fits (Pending s a n) = (s ≤ 255) × (a ≤ 65535)
+Fits None = Unit {0}
+Fits (Some m) = (m.source.sender ≤ 255) × (m.source.aid ≤ 65535)
 
 -- the numbers and the receiver determine each other
 pub record Inverse : Type 0 where
@@ -55,6 +52,6 @@ abbrev pub completion_size : ℕ
 completion_size = 4
 
 -- 0 where the message is not complete; 1 and what is told of it where it is
-unfoldable pub completion_numbers : Completion → List ℕ
-completion_numbers Incomplete = 0 ∷ 0 ∷ 0 ∷ 0 ∷ []
-completion_numbers (Complete s a n) = 1 ∷ completion_told (Complete s a n)
+unfoldable pub completion_numbers : Option Received → List ℕ
+completion_numbers None = 0 ∷ 0 ∷ 0 ∷ 0 ∷ []
+completion_numbers (Some m) = 1 ∷ completion_told (Some m)

@@ -1,9 +1,7 @@
 -- An operation as numbers and bytes (ISO/IEC 14576, Table 6), both ways.
-use Rattle.std.specs.Prelude.{ℕ, ◌≤◌, ◌<◌, ◌≡◌, false, cond, List, eqb, leb}
+use Rattle.std.specs.Prelude.{ℕ, ◌≤◌, ◌<◌, ◌≡◌, false, cond, List, Option, Some, None, eqb, leb}
 use Rattle.message_rules.specs.declared.Sequence.{Sequence}
 use Rattle.message_rules.specs.declared.Sequence.TheVariants.{Single, First, Middle, Last}
-use Rattle.message_rules.specs.declared.SequenceFound.{SequenceFound}
-use Rattle.message_rules.specs.declared.SequenceFound.TheVariants.{Known, Nothing}
 use Rattle.message_rules.specs.Operation.{Operation, operation, is_source, sequence_number}
 use Rattle.crossing.specs.Capped.{capped}
 
@@ -26,6 +24,6 @@ pub record Numbered : Type 0 where
   pub none : (n s a : ℕ) → 3 < n → is_source (operation_sender n s) (capped 65535 a) ≡ false
 
 -- the number of a sequence that was asked for; 0 where there is none
-unfoldable pub number_found : SequenceFound → ℕ
-number_found (Known q) = sequence_number q
-number_found Nothing = 0
+unfoldable pub number_found : Option Sequence → ℕ
+number_found (Some q) = sequence_number q
+number_found None = 0

@@ -10,10 +10,9 @@ ghost use Rattle.capi_message.specs.Operation.{operation_from};
 ghost use Rattle.capi_message.specs.Receive.{receive_returned, receive_receiver, receive_store, receive_completion};
 ghost use Rattle.capi_message.specs.Divide.{divide_returned, divide_operations, operation_sequence, operation_offset, operation_length};
 
-use crossing::byte;
-use layout::{aid_from, hand_over, receiver_from};
-use operation::{length_at, number_at, offset_at, operation_sender, sequence_from};
-use order::NO_ROOM;
+use layout::{put, receiver_from};
+use operation::{number_at, operation_from, source_from};
+use order::Refusal;
 
 // Gives an operation to a receiver.
 #[unsafe(no_mangle)]
@@ -28,18 +27,19 @@ pub extern "C" fn trainer_receive(
 ) -> u32
     ensures { (result ≡ receive_returned receiver.old store.old (operation_from sequence sender aid bytes.now) completion.old) × (receiver.new ≡ receive_receiver receiver.old store.old (operation_from sequence sender aid bytes.now) completion.old) × (store.new ≡ receive_store receiver.old store.old (operation_from sequence sender aid bytes.now) completion.old) × (completion.new ≡ receive_completion receiver.old store.old (operation_from sequence sender aid bytes.now) completion.old) }
 {
-    if receiver.len() < 4 {
-        return NO_ROOM as u32;
-    }
-    if completion.len() < 4 {
-        return NO_ROOM as u32;
+    if receiver.len() < 4 || completion.len() < 4 {
+        return Refusal::NoRoom.into();
     }
     let before = receiver_from(receiver);
-    let kind = sequence_from(sequence);
-    let s = operation_sender(sequence, sender);
-    let a = aid_from(aid as u64);
-    let done = message::receive(before, store, kind, s, a, bytes);
-    hand_over(done, receiver, completion)
+    let (sequence, source) = operation_from(sequence, sender, aid);
+    match message::receive(before, store, sequence, source, bytes) {
+        Ok(done) => {
+            put(done.receiver, receiver);
+            put(done.completion, completion);
+            0
+        }
+        Err(refused) => refused.into(),
+    }
 }
 
 // How many operations a message makes.
@@ -52,15 +52,14 @@ pub extern "C" fn trainer_divide(
 ) -> u32
     ensures { (result ≡ divide_returned message.now sender aid) × (operations.new ≡ divide_operations message.now sender aid operations.old) }
 {
-    let s = byte(sender as u64);
-    let a = aid_from(aid as u64);
-    let made = message::divide(message, s, a);
-    let refusal = made.refusal;
-    if refusal != 0 {
-        return refusal as u32;
+    let source = source_from(u64::from(sender), u64::from(aid));
+    match message::divide(message, source) {
+        Ok(count) => {
+            *operations = count;
+            0
+        }
+        Err(refusal) => refusal.into(),
     }
-    *operations = made.operations;
-    0
 }
 
 // Operation `index` of a message, counted from 0.
@@ -76,15 +75,14 @@ pub extern "C" fn trainer_operation(
 ) -> u32
     ensures { (result ≡ divide_returned message.now sender aid) × (sequence.new ≡ operation_sequence message.now sender aid index sequence.old) × (offset.new ≡ operation_offset message.now sender aid index offset.old) × (length.new ≡ operation_length message.now sender aid index length.old) }
 {
-    let s = byte(sender as u64);
-    let a = aid_from(aid as u64);
-    let made = message::divide(message, s, a);
-    let refusal = made.refusal;
-    if refusal != 0 {
-        return refusal as u32;
+    let source = source_from(u64::from(sender), u64::from(aid));
+    match message::divide(message, source) {
+        Ok(count) => {
+            *sequence = number_at(message, source, index);
+            *offset = if index < count { 256 * index } else { 0 };
+            *length = message::part_at(message, source, index).len();
+            0
+        }
+        Err(refusal) => refusal.into(),
     }
-    *sequence = number_at(message, s, a, index);
-    *offset = offset_at(message, s, a, index);
-    *length = length_at(message, s, a, index);
-    0
 }

@@ -44,3 +44,5 @@ module _ (r : Receiver) (st : List ℕ) (q : Sequence) (s a : ℕ) (b : List ℕ
   pub accepted_kept : (at : ℕ) → 0 ≡ receive_refusal r st (operation q s a b) → at ≡ start_of r → placed st at b ≡ store_after r st (operation q s a b)
   unfolding operation
   accepted_kept at h e = accepted_placed r st (operation q s a b) at e (sym h) ∙ sym (accepted_store r st (operation q s a b) (sym h))
+
+pub ruleset answers = (refused_told, refused_kept, accepted_room, complete_told, pending_told, accepted_kept)

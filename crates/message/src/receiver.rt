@@ -10,7 +10,7 @@ use order::Refusal;
 use text::space::put_word;
 
 // One operation. Its bytes go into the store behind those of the same message. A refused one leaves receiver and store as they were.
-#[tactic(auto, using(crate::proofs::ReceiveLaws::refused_told, crate::proofs::ReceiveLaws::refused_kept, crate::proofs::ReceiveLaws::accepted_room, crate::proofs::ReceiveLaws::complete_told, crate::proofs::ReceiveLaws::pending_told, crate::proofs::ReceiveLaws::accepted_kept))]
+#[tactic(auto, using(crate::proofs::ReceiveLaws::answers))]
 pub fn receive(
     receiver: Receiver,
     store: &mut [u8],
