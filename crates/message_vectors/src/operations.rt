@@ -1,90 +1,92 @@
 // Single operations to a receiver in any state: what it accepts, each refusal, and the order of the refusals.
-use crate::print::{answer, name, number, source, state, word};
+use crate::print::{Bytes, Completion, Name, State};
 use crate::store::{OTHER, fill, show_changed};
-use message_rules::{Receiver, Sequence};
+use message_rules::{Received, Receiver, Sequence, Source};
 use std::io;
 
-// A number for each operation, by its digits: the receiver (0 idle, 1 pending) with its sender, AID and count; the store's size (5 to 7: 4,095 to
-// 4,097 bytes); the sequence (0 single, 1 first, 2 middle, 3 last), sender, AID and length of the operation.
-const OPERATIONS: [u64; 58] = [
+// Bytes of a message: the sender, the AID, and how many.
+type Of = (u8, u16, usize);
+
+// A row for each operation: what the receiver has of a message, None where it is idle; the store's size; and the operation, its sequence and its bytes.
+const OPERATIONS: [(Option<Of>, usize, Sequence, Of); 58] = [
     // "First and Single start only from idle, at byte 0"; "Each operation carries 1 to 256 bytes"; "a sender above 7, an AID above 255"
-    0_0_000_0000_6_0_7_255_256,
-    0_0_000_0000_6_0_0_000_001,
-    0_0_000_0000_6_1_7_255_256,
-    0_0_000_0000_6_1_0_000_001,
+    (None, 4096, Sequence::Single, (7, 255, 256)),
+    (None, 4096, Sequence::Single, (0, 0, 1)),
+    (None, 4096, Sequence::First, (7, 255, 256)),
+    (None, 4096, Sequence::First, (0, 0, 1)),
     // "Middle and Last need pending and go on at its count"; "a count outside 1 to 4,096"; "a whole message is at most 4,096"
-    1_0_000_0001_6_2_0_000_001,
-    1_0_000_0001_6_3_0_000_256,
-    1_7_255_3840_6_2_7_255_256,
-    1_7_255_3840_6_3_7_255_256,
-    1_7_255_4095_6_2_7_255_001,
-    1_7_255_4095_6_3_7_255_001,
+    (Some((0, 0, 1)), 4096, Sequence::Middle, (0, 0, 1)),
+    (Some((0, 0, 1)), 4096, Sequence::Last, (0, 0, 256)),
+    (Some((7, 255, 3840)), 4096, Sequence::Middle, (7, 255, 256)),
+    (Some((7, 255, 3840)), 4096, Sequence::Last, (7, 255, 256)),
+    (Some((7, 255, 4095)), 4096, Sequence::Middle, (7, 255, 1)),
+    (Some((7, 255, 4095)), 4096, Sequence::Last, (7, 255, 1)),
     // 1 alone: "kept in a lent store of that size"
-    0_0_000_0000_5_0_7_255_001,
-    1_7_255_0001_7_3_7_255_001,
+    (None, 4095, Sequence::Single, (7, 255, 1)),
+    (Some((7, 255, 1)), 4097, Sequence::Last, (7, 255, 1)),
     // 10 alone, which only a count of 0 is: to a pending sender above 7 or AID above 255 an operation with the same is 8 too, and one with
     // another 11; a count above 4,096 is 9 too; and First and Single are 12.
-    1_7_255_0000_6_2_7_255_001,
+    (Some((7, 255, 0)), 4096, Sequence::Middle, (7, 255, 1)),
     // 8 alone: "length, or an operation's sender above 7 or AID above 255"
-    0_0_000_0000_6_0_7_255_000,
-    0_0_000_0000_6_1_7_255_257,
-    0_0_000_0000_6_0_8_255_001,
-    0_0_000_0000_6_1_7_256_001,
-    1_7_255_0001_6_2_7_255_000,
-    1_7_255_0001_6_3_7_255_257,
+    (None, 4096, Sequence::Single, (7, 255, 0)),
+    (None, 4096, Sequence::First, (7, 255, 257)),
+    (None, 4096, Sequence::Single, (8, 255, 1)),
+    (None, 4096, Sequence::First, (7, 256, 1)),
+    (Some((7, 255, 1)), 4096, Sequence::Middle, (7, 255, 0)),
+    (Some((7, 255, 1)), 4096, Sequence::Last, (7, 255, 257)),
     // 12 alone: "out of turn"
-    1_7_255_0001_6_1_7_255_001,
-    1_7_255_0001_6_0_7_255_001,
-    0_0_000_0000_6_2_7_255_001,
-    0_0_000_0000_6_3_7_255_001,
+    (Some((7, 255, 1)), 4096, Sequence::First, (7, 255, 1)),
+    (Some((7, 255, 1)), 4096, Sequence::Single, (7, 255, 1)),
+    (None, 4096, Sequence::Middle, (7, 255, 1)),
+    (None, 4096, Sequence::Last, (7, 255, 1)),
     // 11 alone: "other sender or AID"
-    1_7_255_0001_6_2_6_255_001,
-    1_7_255_0001_6_3_7_254_001,
+    (Some((7, 255, 1)), 4096, Sequence::Middle, (6, 255, 1)),
+    (Some((7, 255, 1)), 4096, Sequence::Last, (7, 254, 1)),
     // 9 alone: "over 4,096"
-    1_7_255_4096_6_2_7_255_001,
-    1_7_255_3841_6_3_7_255_256,
+    (Some((7, 255, 4096)), 4096, Sequence::Middle, (7, 255, 1)),
+    (Some((7, 255, 3841)), 4096, Sequence::Last, (7, 255, 256)),
     // 1 before 10, 8, 12, 11 and 9
-    1_7_255_0000_5_2_7_255_001,
-    0_0_000_0000_7_0_7_255_257,
-    1_7_255_0001_5_1_7_255_001,
-    1_7_255_0001_5_2_6_255_001,
-    1_7_255_4096_7_3_7_255_001,
+    (Some((7, 255, 0)), 4095, Sequence::Middle, (7, 255, 1)),
+    (None, 4097, Sequence::Single, (7, 255, 257)),
+    (Some((7, 255, 1)), 4095, Sequence::First, (7, 255, 1)),
+    (Some((7, 255, 1)), 4095, Sequence::Middle, (6, 255, 1)),
+    (Some((7, 255, 4096)), 4097, Sequence::Last, (7, 255, 1)),
     // 10 before 8: a sender above 7, an AID above 255, and a count of 0 with an empty operation
-    1_8_255_0001_6_2_8_255_001,
-    1_7_256_0001_6_3_7_256_001,
-    1_7_255_0000_6_2_7_255_000,
+    (Some((8, 255, 1)), 4096, Sequence::Middle, (8, 255, 1)),
+    (Some((7, 256, 1)), 4096, Sequence::Last, (7, 256, 1)),
+    (Some((7, 255, 0)), 4096, Sequence::Middle, (7, 255, 0)),
     // 10 before 12
-    1_7_255_0000_6_1_7_255_001,
+    (Some((7, 255, 0)), 4096, Sequence::First, (7, 255, 1)),
     // 10 before 11: a sender above 7, an AID above 255, and a count of 0
-    1_8_255_0001_6_2_7_255_001,
-    1_7_256_0001_6_3_7_255_001,
-    1_7_255_0000_6_2_6_255_001,
+    (Some((8, 255, 1)), 4096, Sequence::Middle, (7, 255, 1)),
+    (Some((7, 256, 1)), 4096, Sequence::Last, (7, 255, 1)),
+    (Some((7, 255, 0)), 4096, Sequence::Middle, (6, 255, 1)),
     // 10 before 9
-    1_7_255_4097_6_2_7_255_001,
+    (Some((7, 255, 4097)), 4096, Sequence::Middle, (7, 255, 1)),
     // 8 before 12
-    0_0_000_0000_6_2_7_255_000,
-    1_7_255_0001_6_0_7_255_257,
+    (None, 4096, Sequence::Middle, (7, 255, 0)),
+    (Some((7, 255, 1)), 4096, Sequence::Single, (7, 255, 257)),
     // 8 before 11: a sender above 7 and an AID above 255 are always other ones
-    1_7_255_0001_6_2_8_255_001,
-    1_7_255_0001_6_3_7_256_001,
-    1_7_255_0001_6_2_6_255_000,
+    (Some((7, 255, 1)), 4096, Sequence::Middle, (8, 255, 1)),
+    (Some((7, 255, 1)), 4096, Sequence::Last, (7, 256, 1)),
+    (Some((7, 255, 1)), 4096, Sequence::Middle, (6, 255, 0)),
     // 8 before 9
-    1_7_255_3840_6_2_7_255_257,
+    (Some((7, 255, 3840)), 4096, Sequence::Middle, (7, 255, 257)),
     // 12 before 11 and 9. First and Single have nothing to match and start at byte 0: only 12 speaks of them, whatever is pending.
-    1_7_255_0001_6_1_6_255_001,
-    1_7_255_0001_6_0_7_254_001,
-    1_7_255_4096_6_1_7_255_001,
-    1_7_255_3841_6_0_7_255_256,
+    (Some((7, 255, 1)), 4096, Sequence::First, (6, 255, 1)),
+    (Some((7, 255, 1)), 4096, Sequence::Single, (7, 254, 1)),
+    (Some((7, 255, 4096)), 4096, Sequence::First, (7, 255, 1)),
+    (Some((7, 255, 3841)), 4096, Sequence::Single, (7, 255, 256)),
     // 11 before 9
-    1_7_255_3841_6_3_7_254_256,
+    (Some((7, 255, 3841)), 4096, Sequence::Last, (7, 254, 256)),
     // all six at once; then without the first of them, and so on
-    1_8_255_4097_5_1_7_255_257,
-    1_8_255_4097_6_1_7_255_257,
-    1_6_255_4096_6_1_7_255_257,
-    1_6_255_4096_6_1_7_255_256,
-    1_6_255_4096_6_2_7_255_256,
-    1_7_255_4096_6_2_7_255_256,
-    1_7_255_3840_6_2_7_255_256,
+    (Some((8, 255, 4097)), 4095, Sequence::First, (7, 255, 257)),
+    (Some((8, 255, 4097)), 4096, Sequence::First, (7, 255, 257)),
+    (Some((6, 255, 4096)), 4096, Sequence::First, (7, 255, 257)),
+    (Some((6, 255, 4096)), 4096, Sequence::First, (7, 255, 256)),
+    (Some((6, 255, 4096)), 4096, Sequence::Middle, (7, 255, 256)),
+    (Some((7, 255, 4096)), 4096, Sequence::Middle, (7, 255, 256)),
+    (Some((7, 255, 3840)), 4096, Sequence::Middle, (7, 255, 256)),
 ];
 
 // One operation: what it is, then the answer. Gives back the receiver for the next.
@@ -93,74 +95,50 @@ pub(crate) fn operation(
     receiver: Receiver,
     store: &mut [u8],
     sequence: Sequence,
-    sender: u8,
-    aid: u16,
+    source: Source,
     bytes: &[u8],
 ) -> io::Result<Receiver> {
-    name(to, sequence)?;
-    source(to, sender, aid, bytes.len())?;
-    let receipt = message::receive(receiver, store, sequence, sender, aid, bytes);
-    answer(to, receipt)?;
-    Ok(receipt.receiver)
-}
-
-fn receiver_of(digits: u64) -> Receiver {
-    if digits / 100000000 == 0 {
-        Receiver::Idle
-    } else {
-        Receiver::Pending {
-            sender: (digits / 10000000 % 10) as u8,
-            aid: (digits / 10000 % 1000) as u16,
-            count: (digits % 10000) as usize,
-        }
-    }
-}
-
-fn sequence_of(number: u64) -> Sequence {
-    match number {
-        0 => Sequence::Single,
-        1 => Sequence::First,
-        2 => Sequence::Middle,
-        _ => Sequence::Last,
-    }
-}
-
-fn run(to: &impl Print, digits: u64, store: &mut [u8], bytes: &[u8]) -> io::Result<()> {
-    let receiver = receiver_of(digits / 1000000000);
-    word(to, b"receiver")?;
-    state(to, receiver)?;
-    number(to, b" store ", store.len() as u64)?;
-    let sequence = sequence_of(digits / 10000000 % 10);
-    operation(
-        to,
-        receiver,
-        store,
-        sequence,
-        (digits / 1000000 % 10) as u8,
-        (digits / 1000 % 1000) as u16,
-        bytes,
+    let given = Bytes(Received {
+        source,
+        count: bytes.len(),
+    });
+    let (refusal, next, completion) = match message::receive(
+        receiver, store, sequence, source, bytes,
+    ) {
+        Ok(accepted) => (0, accepted.receiver, accepted.completion),
+        Err(refusal) => (refusal as u32, receiver, None),
+    };
+    print!(to;
+        "{} {given}: refusal {refusal} {} {}",
+        Name(sequence),
+        State(next),
+        Completion(completion)
     )?;
-    show_changed(to, store)?;
-    word(to, b"\n")
-}
-
-fn row(to: &impl Print, digits: u64) -> io::Result<()> {
-    let mut bytes = [0u8; 257];
-    fill(&mut bytes);
-    let mut store = [OTHER; 4097];
-    let size = 4090 + (digits / 100000000 % 10) as usize;
-    let length = (digits % 1000) as usize;
-    if size <= 4097 {
-        if length <= 257 {
-            run(to, digits, &mut store[0..size], &bytes[0..length])?;
-        }
-    }
-    Ok(())
+    Ok(next)
 }
 
 pub(crate) fn run_operations(to: &impl Print) -> io::Result<()> {
-    for k in 0..58 {
-        row(to, OPERATIONS[k])?;
+    let mut bytes = [0u8; 257];
+    fill(&mut bytes);
+    for (pending, size, sequence, (sender, aid, length)) in OPERATIONS {
+        let receiver = pending.map(|(sender, aid, count)| Received {
+            source: Source { sender, aid },
+            count,
+        });
+        let mut store = [OTHER; 4097];
+        let size = size.min(store.len());
+        let length = length.min(bytes.len());
+        print!(to; "receiver {} store {size} ", State(receiver))?;
+        operation(
+            to,
+            receiver,
+            &mut store[..size],
+            sequence,
+            Source { sender, aid },
+            &bytes[..length],
+        )?;
+        show_changed(to, &store[..size])?;
+        println!(to)?;
     }
     Ok(())
 }
