@@ -49,7 +49,7 @@ numbered_back OutOfTurn = refl
 numbered_back HalvesDiffer = refl
 numbered_back Unreadable = refl
 
-refusal_one : (x y : Refusal) → refusal_number x ≡ refusal_number y → x ≡ y
+pub refusal_one : (x y : Refusal) → refusal_number x ≡ refusal_number y → x ≡ y
 refusal_one x y e = sym (numbered_back x) ∙ ap numbered e ∙ numbered_back y
 
 pub number_pos : (x : Refusal) → 1 ≤ refusal_number x

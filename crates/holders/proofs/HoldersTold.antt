@@ -20,8 +20,11 @@ use Rattle.coherence.proofs.Cases.{four}
 use Rattle.coherence.proofs.Rules.{sound_placed, sound_sets_lem}
 use Rattle.coherence.proofs.Theorem.{block_true, session_sound}
 use Rattle.holder_sets.proofs.SetLaws.{units_lt}
-use Rattle.holders.specs.declared.HoldersAnswer.{HoldersAnswer}
-use Rattle.holders.specs.Holders.{holders_refusal, holders_refused, holders_answer, HoldsBlock, TellsHolders, HoldersTold, HoldersKept, SaysRefused}
+use Rattle.std.specs.Prelude.{Result, Ok, Err}
+use Rattle.order.specs.declared.Refusal.{Refusal}
+use Rattle.coherence.proofs.AnswerLaws.{refusal_one, number_pos}
+use Rattle.holders.specs.declared.BlockHolders.{BlockHolders}
+use Rattle.holders.specs.Holders.{HoldersAnswer, holders_refusal, holders_refused, holders_answer, told_holders, HoldersTellApart, HoldsBlock, TellsHolders, HoldersTold, HoldersKept, SaysRefused}
 
 -- ---- a set of units
 flag_is : (t : Bool) → eqb (flag t) 1 ≡ t
@@ -144,3 +147,15 @@ looked_up d b s l =
     let e : held_by d b ≡ holders_of d b = sound_sets_lem d b s (omega arith) in
     let n : ones (held_by d b) ≡ ones_below 4 (held_by d b) = ones_count 4 (held_by d b) (rw e (holders_lt d b)) in
     rw (eq-eqb (holders_refusal d b) 0 (sound_accepted d b s l), n) refl
+
+-- ---- the code's answers
+tell_apart : (r s : Result BlockHolders Refusal) → told_holders r ≡ told_holders s → r ≡ s
+unfolding holders_refused
+tell_apart (Ok a) (Ok b) e = ap (λ (x : HoldersAnswer). Ok (record { set = x.set; count = x.count })) e
+tell_apart (Ok a) (Err y) e = absurd (omega (arith, number_pos y, ap (λ (x : HoldersAnswer). x.refusal) e))
+tell_apart (Err x) (Ok b) e = absurd (omega (arith, number_pos x, ap (λ (z : HoldersAnswer). z.refusal) e))
+tell_apart (Err x) (Err y) e = ap Err (refusal_one x y (ap (λ (z : HoldersAnswer). z.refusal) e))
+
+pub holders_tell_apart : HoldersTellApart
+unfolding HoldersTellApart
+holders_tell_apart r s e = tell_apart r s e

@@ -1,17 +1,23 @@
 -- Document 02, T-08, "Who holds a block, kept ready": the call that gives a block's set of holders and their count, and what is claimed of it.
-use Rattle.std.specs.Prelude.{ℕ, ◌≤◌, ◌<◌, ◌≡◌, true, cond, List, [], ◌∷◌, eqb}
+use Rattle.std.specs.Prelude.{ℕ, ◌≤◌, ◌<◌, ◌≡◌, true, Result, Ok, Err, cond, List, [], ◌∷◌, eqb}
 use Rattle.order.specs.Flag.{flag}
-use Rattle.order.specs.Refusal.{accepted, first_refusal}
+use Rattle.order.specs.declared.Refusal.{Refusal}
+use Rattle.order.specs.Refusal.{refusal_number, accepted, first_refusal}
 use Rattle.numeric.specs.Bits.{sum_below, contains, ones_below}
 use Rattle.coherence.specs.declared.Settings.{Settings}
 use Rattle.coherence.specs.declared.Directory.{Directory}
 use Rattle.coherence.specs.declared.Call.{Call}
-use Rattle.coherence.specs.declared.Answer.{Answer}
-use Rattle.coherence.specs.declared.Start.{Start}
+use Rattle.coherence.specs.Answer.{Answer, Start}
 use Rattle.coherence.specs.Slots.{slot_of, place, slot_at, holds, held_by}
 use Rattle.coherence.specs.Refusal.{is_block, directory_test, target_test}
 use Rattle.coherence.specs.Demand3.{Session}
-use Rattle.holders.specs.declared.HoldersAnswer.{HoldersAnswer}
+use Rattle.holders.specs.declared.BlockHolders.{BlockHolders}
+
+-- what the call answers, in document 01's numbers
+pub record HoldersAnswer : Type 0 where
+  pub refusal : ℕ
+  pub set : ℕ
+  pub count : ℕ
 
 -- "A new call, testing 2, then 4"
 unfoldable pub holders_refusal : Directory → ℕ → ℕ
@@ -27,6 +33,15 @@ holders_answer d b =
     cond (eqb (holders_refusal d b) accepted)
     (record { refusal = accepted; set = held_by d b; count = ones_below 4 (held_by d b) })
     (holders_refused (holders_refusal d b))
+
+-- the code's answer in these numbers
+abbrev pub told_holders : Result BlockHolders Refusal → HoldersAnswer
+told_holders (Ok h) = record { refusal = accepted; set = h.set; count = h.count }
+told_holders (Err refusal) = holders_refused (refusal_number refusal)
+
+-- different answers of the code are told differently
+unfoldable pub HoldersTellApart : Type 0
+HoldersTellApart = (r s : Result BlockHolders Refusal) → told_holders r ≡ told_holders s → r ≡ s
 
 -- ---- what is claimed
 

@@ -2,46 +2,32 @@
 #![tactic(auto)]
 
 ghost use Rattle.std.specs.Prelude.{◌≡◌};
-ghost use Rattle.holders.specs.Holders.{holders_refused, holders_answer};
+ghost use Rattle.holders.specs.Holders.{holders_answer, told_holders};
 
 use coherence::Directory;
 use holder_sets::set_at;
-use order::{BAD_ADDRESS, BROKEN_DIRECTORY};
+use order::Refusal;
 use soundness::is_sound;
 
-// What the call answers. `refusal` is 0 if it was accepted.
-#[derive(Clone, Copy)]
-pub struct HoldersAnswer {
-    pub refusal: u8,
+#[derive(Clone, Copy, Debug, PartialEq, Eq)]
+pub struct BlockHolders {
     pub set: u8,
     pub count: u32,
 }
 
-fn refused(refusal: u8) -> HoldersAnswer
-    ensures { result ≡ holders_refused refusal }
-{
-    HoldersAnswer {
-        refusal,
-        set: 0,
-        count: 0,
-    }
-}
-
 // The holders of the block, as the directory keeps them: the test of the directory, and one look.
-pub fn holders(directory: Directory, block: u8) -> HoldersAnswer
-    ensures { result ≡ holders_answer directory block }
+pub fn holders(directory: Directory, block: u8) -> Result<BlockHolders, Refusal>
+    ensures { told_holders result ≡ holders_answer directory block }
 {
     if !is_sound(directory) {
-        return refused(BROKEN_DIRECTORY);
+        return Err(Refusal::BrokenDirectory);
     }
     if block > 63 {
-        return refused(BAD_ADDRESS);
+        return Err(Refusal::BadAddress);
     }
-    let sets = directory.holders;
-    let set = set_at(sets, block);
-    HoldersAnswer {
-        refusal: 0,
+    let set = set_at(directory.holders, block);
+    Ok(BlockHolders {
         set,
-        count: u8::count_ones(set),
-    }
+        count: set.count_ones(),
+    })
 }
