@@ -7,9 +7,9 @@ use mathlib.Core.List.{List, ◌∷◌, ◌++◌}
 use lib.ListN.{length, get_or}
 use lib.Dec.{eqb}
 use borrow.Author.Tests.{eqb-true}
-use Rattle.order.specs.Refusal.{field_range}
+use Rattle.std.specs.Prelude.{Ok, Err}
+use Rattle.order.specs.declared.Refusal.TheVariants.{FieldRange}
 use Rattle.tape_format.specs.Record.{kind_of, fields_of}
-use Rattle.record_numbers.specs.declared.RecordFound.TheVariants as found
 use Rattle.record_numbers.proofs.SevenLaws.{seven}
 use Rattle.record_numbers.proofs.NamesLaws.{Begins, Names, l, of_kind}
 use Rattle.record_numbers.specs.Entry.{kind_from, record_from, Forth}
@@ -18,7 +18,7 @@ pub forth : Forth
 unfolding Forth record_from Names Begins l
 forth numbers r e h = go (eqb (length numbers) 7) refl e
   where
-    go : (t : Bool) → eqb (length numbers) 7 ≡ t → cond t (kind_from (get_or numbers 0 0) (get_or numbers 1 0) (get_or numbers 2 0) (get_or numbers 3 0) (get_or numbers 4 0) (get_or numbers 5 0) (get_or numbers 6 0)) (found.Refused field_range) ≡ found.Known r
+    go : (t : Bool) → eqb (length numbers) 7 ≡ t → cond t (kind_from (get_or numbers 0 0) (get_or numbers 1 0) (get_or numbers 2 0) (get_or numbers 3 0) (get_or numbers 4 0) (get_or numbers 5 0) (get_or numbers 6 0)) (Err FieldRange) ≡ Ok r
         → (behind : List ℕ) × (numbers ≡ (kind_of r ∷ fields_of r) ++ behind)
     go true t x =
         let n = of_kind (get_or numbers 0 0) (get_or numbers 1 0) (get_or numbers 2 0) (get_or numbers 3 0) (get_or numbers 4 0) (get_or numbers 5 0) (get_or numbers 6 0) in

@@ -6,8 +6,9 @@ use mathlib.Core.Bool.{Bool, true, false, cond}
 use mathlib.Core.List.{List, [], ◌∷◌, ◌++◌}
 use lib.Dec.{leb, eqb}
 use borrow.Author.Tests.{le-leb, leb-true, eqb-true}
-use Rattle.order.specs.declared.CommandFound.{CommandFound}
-use Rattle.order.specs.declared.CommandFound.TheVariants as command
+use Rattle.std.specs.Prelude.{Option, None, Some, Result, Ok, Err}
+use Rattle.order.specs.declared.Refusal.{Refusal}
+use Rattle.order.specs.declared.Command.{Command}
 use Rattle.order.specs.Command.{command_of}
 use Rattle.tape_format.specs.declared.Record.{Record}
 use Rattle.tape_format.specs.declared.Record.TheVariants as rec
@@ -17,8 +18,6 @@ use Rattle.order.proofs.CommandLaws.{number_of_command}
 use Rattle.tape_format.proofs.LayoutLaws.{flag_back}
 use Rattle.crossing.specs.Capped.{capped}
 use Rattle.crossing.proofs.CappedLaws.{caps}
-use Rattle.record_numbers.specs.declared.RecordFound.{RecordFound}
-use Rattle.record_numbers.specs.declared.RecordFound.TheVariants as found
 use Rattle.record_numbers.specs.Entry.{store_from, order_with, order_from, answer_from, register_from, loaded_from, kind_from}
 
 -- what is in range was not capped
@@ -44,11 +43,11 @@ address n h = uncapped 4294967295 2044 n (omega arith) h.1
 unfoldable pub Begins : List ℕ → Record → Type 0
 Begins l r = (behind : List ℕ) × (l ≡ (kind_of r ∷ fields_of r) ++ behind)
 
-unfoldable pub Names : List ℕ → RecordFound → Type 0
-Names l (found.Known r) = InRange r → Begins l r
-Names l (found.Refused number) = ℕ
+unfoldable pub Names : List ℕ → Result Record Refusal → Type 0
+Names l (Ok r) = InRange r → Begins l r
+Names l (Err refusal) = ℕ
 
-pick : (P : RecordFound → Type 0) (t : Bool) (a b : RecordFound) → (t ≡ true → P a) → P b → P (cond t a b)
+pick : (P : Result Record Refusal → Type 0) (t : Bool) (a b : Result Record Refusal) → (t ≡ true → P a) → P b → P (cond t a b)
 pick P true a b h l = h refl
 pick P false a b h l = l
 
@@ -56,7 +55,7 @@ module _ (k a b c d e f : ℕ) where
   unfoldable pub l : List ℕ
   l = k ∷ a ∷ b ∷ c ∷ d ∷ e ∷ f ∷ []
 
-  of_load : k ≡ 0 → Names l (found.Known (rec.Load (capped 255 a) (capped 4294967295 b)))
+  of_load : k ≡ 0 → Names l (Ok (rec.Load (capped 255 a) (capped 4294967295 b)))
   unfolding l Names Begins InRange kind_of fields_of
   of_load q h = (c ∷ d ∷ e ∷ f ∷ [], rw (q, unit a h.0, address b h.1))
 
@@ -67,14 +66,14 @@ module _ (k a b c d e f : ℕ) where
       (λ _. λ h. (d ∷ e ∷ f ∷ [], rw (q, unit a h.0, address b h.1)))
       0
 
-  of_flush : k ≡ 2 → Names l (found.Known (rec.Flush (capped 255 a) (capped 255 b)))
+  of_flush : k ≡ 2 → Names l (Ok (rec.Flush (capped 255 a) (capped 255 b)))
   unfolding l Names Begins InRange kind_of fields_of
   of_flush q h = (c ∷ d ∷ e ∷ f ∷ [], rw (q, unit a h.0, block b h.1))
 
-  of_command : k ≡ 3 → d ≤ 1 → (x : CommandFound) → command_of b ≡ x → Names l (order_with x a c d)
+  of_command : k ≡ 3 → d ≤ 1 → (x : Option Command) → command_of b ≡ x → Names l (order_with x a c d)
   unfolding l Names Begins InRange kind_of fields_of order_with
-  of_command q s (command.Known given) g = λ h. (e ∷ f ∷ [], rw (q, unit a h.0, number_of_command b given g, block c h.1, flag_back d s))
-  of_command q s command.Unknown g = 0
+  of_command q s (Some given) g = λ h. (e ∷ f ∷ [], rw (q, unit a h.0, number_of_command b given g, block c h.1, flag_back d s))
+  of_command q s None g = 0
 
   of_order : k ≡ 3 → Names l (order_from a b c d)
   unfolding Names order_from
@@ -101,7 +100,7 @@ module _ (k a b c d e f : ℕ) where
   unfolding l Names Begins InRange kind_of fields_of loaded_from
   of_loaded q = pick (Names l) (leb b 4294967295) _ _ (λ _. λ h. (c ∷ d ∷ e ∷ f ∷ [], rw (q, unit a h.0))) 0
 
-  of_stamp : k ≡ 8 → Names l (found.Known (rec.Stamp a))
+  of_stamp : k ≡ 8 → Names l (Ok (rec.Stamp a))
   unfolding l Names Begins kind_of fields_of
   of_stamp q h = (b ∷ c ∷ d ∷ e ∷ f ∷ [], rw q)
 

@@ -1,113 +1,101 @@
 // A tape's record from seven numbers, as a program in another language gives them: its kind, its fields, and any numbers behind them.
 #![tactic(auto)]
 
-ghost use Rattle.std.specs.Prelude.{◌≡◌};
+ghost use Rattle.std.specs.Prelude.{◌≡◌, Ok, Err, cond, leb, eqb};
+ghost use Rattle.order.specs.declared.Refusal.TheVariants.{FieldRange};
 ghost use Rattle.record_numbers.specs.Entry.{store_from, order_from, answer_from, register_from, loaded_from, record_from};
 
-use crossing::{byte, word};
-use order::{CommandFound, FIELD_RANGE, Order, UNKNOWN_KIND, command_of};
+use crossing::capped;
+use order::{Command, Order, Refusal};
 use tape_format::Record;
 
-// The record that seven numbers name, or the number of the refusal.
-#[derive(Clone, Copy)]
-pub enum RecordFound {
-    Known(Record),
-    Refused(u8),
+fn flag_from(number: u64) -> Result<bool, Refusal>
+    ensures { result ≡ cond (leb number 1) (Ok (eqb number 1)) (Err FieldRange) }
+{
+    match number {
+        0 => Ok(false),
+        1 => Ok(true),
+        _ => Err(Refusal::FieldRange),
+    }
 }
 
-fn store_from(unit: u64, address: u64, value: u64) -> RecordFound
+#[tactic(auto, unfolding(crate::specs::Entry::store_from))]
+fn store_from(unit: u64, address: u64, value: u64) -> Result<Record, Refusal>
     ensures { result ≡ store_from unit address value }
 {
-    if value <= 4294967295 {
-        return RecordFound::Known(Record::Store(byte(unit), word(address), value as u32));
-    }
-    RecordFound::Refused(FIELD_RANGE)
+    let value = u32::try_from(value).map_err(|_| Refusal::FieldRange)?;
+    Ok(Record::Store(capped(unit), capped(address), value))
 }
 
-fn order_from(unit: u64, command: u64, block: u64, retried: u64) -> RecordFound
+#[tactic(auto, unfolding(crate::specs::Entry::order_from, crate::specs::Entry::order_with))]
+fn order_from(unit: u64, command: u64, block: u64, retried: u64) -> Result<Record, Refusal>
     ensures { result ≡ order_from unit command block retried }
 {
-    if retried > 1 {
-        return RecordFound::Refused(FIELD_RANGE);
-    }
-    match command_of(command) {
-        CommandFound::Known(given) => {
-            RecordFound::Known(Record::Order(Order {
-                unit: byte(unit),
-                command: given,
-                block: byte(block),
-                retried: retried == 1,
-            }))
-        }
-        CommandFound::Unknown => RecordFound::Refused(FIELD_RANGE),
-    }
+    Ok(Record::Order(Order {
+        unit: capped(unit),
+        command: Command::try_from(command)?,
+        block: capped(block),
+        retried: flag_from(retried)?,
+    }))
 }
 
-fn answer_from(from: u64, to: u64, aid: u64, code: u64) -> RecordFound
+#[tactic(auto, unfolding(crate::specs::Entry::answer_from))]
+fn answer_from(from: u64, to: u64, aid: u64, code: u64) -> Result<Record, Refusal>
     ensures { result ≡ answer_from from to aid code }
 {
-    if aid <= 255 {
-        if code <= 255 {
-            return RecordFound::Known(Record::Answer {
-                from: byte(from),
-                to: byte(to),
-                aid: aid as u8,
-                code: code as u8,
-            });
-        }
-    }
-    RecordFound::Refused(FIELD_RANGE)
+    Ok(Record::Answer {
+        from: capped(from),
+        to: capped(to),
+        aid: u8::try_from(aid).map_err(|_| Refusal::FieldRange)?,
+        code: u8::try_from(code).map_err(|_| Refusal::FieldRange)?,
+    })
 }
 
-fn register_from(from: u64, to: u64, aid: u64, write: u64, ra: u64, bct: u64) -> RecordFound
+#[tactic(auto, unfolding(crate::specs::Entry::register_from))]
+fn register_from(
+    from: u64,
+    to: u64,
+    aid: u64,
+    write: u64,
+    ra: u64,
+    bct: u64,
+) -> Result<Record, Refusal>
     ensures { result ≡ register_from from to aid write ra bct }
 {
-    if aid <= 255 {
-        if write <= 1 {
-            if ra <= 4294967295 {
-                return RecordFound::Known(Record::Register {
-                    from: byte(from),
-                    to: byte(to),
-                    aid: aid as u8,
-                    write: write == 1,
-                    ra: ra as u32,
-                    bct: byte(bct),
-                });
-            }
-        }
-    }
-    RecordFound::Refused(FIELD_RANGE)
+    Ok(Record::Register {
+        from: capped(from),
+        to: capped(to),
+        aid: u8::try_from(aid).map_err(|_| Refusal::FieldRange)?,
+        write: flag_from(write)?,
+        ra: u32::try_from(ra).map_err(|_| Refusal::FieldRange)?,
+        bct: capped(bct),
+    })
 }
 
-fn loaded_from(unit: u64, value: u64) -> RecordFound
+#[tactic(auto, unfolding(crate::specs::Entry::loaded_from))]
+fn loaded_from(unit: u64, value: u64) -> Result<Record, Refusal>
     ensures { result ≡ loaded_from unit value }
 {
-    if value <= 4294967295 {
-        return RecordFound::Known(Record::Loaded(byte(unit), value as u32));
-    }
-    RecordFound::Refused(FIELD_RANGE)
+    let value = u32::try_from(value).map_err(|_| Refusal::FieldRange)?;
+    Ok(Record::Loaded(capped(unit), value))
 }
 
-pub fn record_from(numbers: &[u64]) -> RecordFound
+#[tactic(auto, unfolding(crate::specs::Entry::record_from, crate::specs::Entry::kind_from))]
+pub fn record_from(numbers: &[u64]) -> Result<Record, Refusal>
     ensures { result ≡ record_from numbers.now }
 {
     if numbers.len() != 7 {
-        return RecordFound::Refused(FIELD_RANGE);
+        return Err(Refusal::FieldRange);
     }
-    let kind = numbers[0];
-    let a = numbers[1];
-    let b = numbers[2];
-    let c = numbers[3];
-    let d = numbers[4];
-    match kind {
-        0 => RecordFound::Known(Record::Load(byte(a), word(b))),
-        1 => store_from(a, b, c),
-        2 => RecordFound::Known(Record::Flush(byte(a), byte(b))),
-        3 => order_from(a, b, c, d),
-        4 => answer_from(a, b, c, d),
-        5 => register_from(a, b, c, d, numbers[5], numbers[6]),
-        6 => loaded_from(a, b),
-        8 => RecordFound::Known(Record::Stamp(a)),
-        _ => RecordFound::Refused(UNKNOWN_KIND),
+    match *numbers {
+        [0, unit, address, ..] => Ok(Record::Load(capped(unit), capped(address))),
+        [1, unit, address, value, ..] => store_from(unit, address, value),
+        [2, unit, block, ..] => Ok(Record::Flush(capped(unit), capped(block))),
+        [3, unit, command, block, retried, ..] => order_from(unit, command, block, retried),
+        [4, from, to, aid, code, ..] => answer_from(from, to, aid, code),
+        [5, from, to, aid, write, ra, bct] => register_from(from, to, aid, write, ra, bct),
+        [6, unit, value, ..] => loaded_from(unit, value),
+        [8, cycles, ..] => Ok(Record::Stamp(cycles)),
+        _ => Err(Refusal::UnknownKind),
     }
 }
