@@ -9,14 +9,17 @@ use native.Mathlib.Nat.{eq-or-lt_of_le}
 use native.Mathlib.Numerals.{add-one}
 use lib.Dec.{leb, eqb}
 use lib.ListN.{length, get_or, take, drop, set, length-append, length-drop}
-use lib.Seq.{paste, paste-suc, sets, sets-eq, take-suc, take-suc-set, take_all, get_or-drop, take-append-add, drop-append-add, drop-drop, length-take-le, take_at, drop_at, get_or-set_same, get_or-set_other}
+use lib.Seq.{sets, sets-eq, take-suc-set, take_all, take-append-add, drop-append-add, drop-drop, length-take-le, take_at, drop_at, get_or-set_same, get_or-set_other}
 use borrow.Author.Tests.{eqb-true, eqb-false, leb-true, le-leb, lt-leb, ne_eqb}
 use Rattle.order.specs.Flag.{flag}
 use Rattle.coherence.specs.declared.Slot.TheVariants.{Invalid, Shared, Modified}
 use Rattle.coherence.specs.declared.Entry.{Entry}
 use Rattle.coherence.specs.declared.Directory.{Directory}
 use Rattle.coherence.specs.Slots.{state_number, slot_at, block_of}
-use Rattle.slots.specs.Directory.{of_slots}
+use borrow.Rule.Slice.PartMut.{put_mid}
+use Rattle.std.proofs.lemmas.Slice.{put_mid-paste}
+use Rattle.coherence.specs.declared.Slot.{Slot}
+use Rattle.slots.specs.Directory.{of_slots, block_or}
 use Rattle.slots.proofs.OfSlots.{of_slot}
 use Rattle.crossing.proofs.Spaces.{put_behind}
 use Rattle.boards.specs.Boards.{set_of}
@@ -47,22 +50,20 @@ put_slot d o n h =
     ∙ ap (λ (k : ℕ). slot_bytes (suc n) d ++ drop k o) next
     ∙ ap (λ (k : ℕ). slot_bytes k d ++ drop (2 * (n + 1)) o) (sym (add-one n)))
 
--- one set more, written and read
-pub put_set : (o h : List ℕ) (b : ℕ) → 130 + b < length o → b < length h → set (paste o 130 h b) (130 + b) (get_or h b 0) ≡ paste o 130 h (b + 1)
-put_set o h b i j = rw (add-one b) (paste-suc o 130 h b 0 i j)
+-- the sets put over 64 bytes of a space that has the slots' bytes
+pub put_sets : (d : Directory) (o p : List ℕ) (m : ℕ) → directory_size ≤ length o → m ≡ 64 → length d.holders ≡ 64 → p ≡ slot_bytes 64 d ++ drop 128 o
+    → put_mid 130 m p d.holders ≡ left_put d o
+unfolding left_put sets_put slots_put
+put_sets d o p m h q e f =
+    let l : length p ≡ length o = ap length f ∙ simp (length-append, length-drop, length_slot_bytes 64 d) (omega arith) in
+    let n : leb directory_size (length p) ≡ true = le-leb directory_size (length p) (omega arith) in
+    put_mid-paste 130 m p d.holders d.holders 64 refl (sym q) (sym e)
+    ∙ ap (λ (x : List ℕ). take 130 p ++ x ++ drop directory_size p) (take_all 64 d.holders (omega arith))
+    ∙ (rw (le-leb directory_size (length o) h, ← f, n) refl)
 
-pub put_sets : (o h : List ℕ) → length h ≡ 64 → paste o 130 h 64 ≡ take 130 o ++ h ++ drop directory_size o
-put_sets o h e = ap (λ (x : List ℕ). take 130 o ++ x ++ drop directory_size o) (take_all 64 h (omega arith))
-
-pub take_set : (l a : List ℕ) (b : ℕ) → b < length a → 130 + b < length l → take b a ≡ take b (drop 130 l)
-    → take (b + 1) (set a b (get_or l (130 + b) 0)) ≡ take (b + 1) (drop 130 l)
-take_set l a b i j e =
-    let x : ℕ = get_or l (130 + b) 0 in
-    rw (add-one b)
-    (take-suc-set a b x i
-    ∙ ap (λ (t : List ℕ). t ++ (x ∷ [])) e
-    ∙ ap (λ (n : ℕ). take b (drop 130 l) ++ (n ∷ [])) (sym (get_or-drop 130 l b 0))
-    ∙ sym (take-suc (drop 130 l) b 0 (simp length-drop (omega arith))))
+pub left_none : (d : Directory) (o : List ℕ) → length o < directory_size → o ≡ left_put d o
+unfolding left_put sets_put slots_put
+left_none d o h = let n : leb directory_size (length o) ≡ false = lt-leb directory_size (length o) h in rw (n, n) refl
 
 -- the sets in their places, and what stands between
 pub left_is : (d : Directory) (o : List ℕ) → directory_size ≤ length o
@@ -126,6 +127,13 @@ pair_next l w n x h p e i k =
     let other : get_or (set w n x) i 0 ≡ get_or w i 0 = get_or-set_other w n i x 0 (λ z. omega arith) in
     rw other (p i q))
     (eq-or-lt_of_le (omega arith))
+
+-- the block of an invalid slot counts as 0
+pub or_zero : (x : Slot) → block_or x 0 ≡ block_of x
+unfolding block_or block_of
+or_zero Invalid = refl
+or_zero (Shared b) = refl
+or_zero (Modified b) = refl
 
 -- ---- the slot of a pair, for each way through the tests
 

@@ -1,41 +1,21 @@
 // The directory as bytes that a caller lends: slot n at 2 n, its state (0 I, 1 SU, 2 EM) and its block; at 128 the set of write-through boards; at
 // 129 steal, 0 or 1; at 130 + b the set of the units that hold block b.
-ghost use Rattle.std.specs.Prelude.{◌≡◌, ◌/◌, ◌%◌, length, get_or};
-ghost use Rattle.coherence.specs.Slots.{state_number, block_of};
-ghost use Rattle.layout.specs.Directory.{Paired, block_spelled, slot_spelled, sets_in, decoded, slots_put, sets_put, left_put, directory_put};
+ghost use Rattle.std.specs.Prelude.{◌≡◌, ◌≤◌, ◌/◌, ◌%◌, ◌++◌, length, get_or, drop};
+ghost use Rattle.slots.specs.Directory.{of_slots};
+ghost use Rattle.layout.specs.Directory.{Paired, slot_bytes, block_spelled, slot_spelled, sets_in, decoded, left_put, directory_put};
 
 use boards::{set_of, settings_of};
 use coherence::{Directory, Entry, Slot};
-use order::flag_number;
+use slots::{block_or, rank};
 
 // A block that no slot may have.
 const NO_BLOCK: u8 = 255;
-
-fn state_of(s: Slot) -> u8
-    ensures { result ≡ state_number s }
-{
-    match s {
-        Slot::Invalid => 0,
-        Slot::Shared(_) => 1,
-        Slot::Modified(_) => 2,
-    }
-}
-
-fn block_of(s: Slot) -> u8
-    ensures { result ≡ block_of s }
-{
-    match s {
-        Slot::Invalid => 0,
-        Slot::Shared(b) => b,
-        Slot::Modified(b) => b,
-    }
-}
 
 // A state and a block in one number.
 fn pair(state: u8, block: u8) -> u16
     ensures { (result % 256 ≡ state) × (result / 256 ≡ block) }
 {
-    state as u16 + 256 * (block as u16)
+    u16::from_le_bytes([state, block])
 }
 
 // The 64 pairs of bytes, each as one number. The compiler then reads and compares eight of them at a time.
@@ -43,16 +23,15 @@ fn pairs(bytes: &[u8]) -> [u16; 64]
     requires { length bytes.now ≡ 194 }
     ensures { (length result ≡ 64) × Paired bytes.now 64 result }
 {
-    let mut words = [0u16; 64];
-    let mut n = 0;
-    while n < 64 {
+    let mut words = [0; 64];
+    for n in 0..64 {
         words[n] = pair(bytes[2 * n], bytes[2 * n + 1]);
-        n += 1;
     }
     words
 }
 
 // The block of a pair with state 1 or 2, else one that no slot may have.
+#[tactic(auto, unfolding(crate::specs::Directory::block_spelled))]
 fn block_spelled(x: u16) -> u8
     ensures { result ≡ block_spelled (x % 256) (x / 256) }
 {
@@ -66,18 +45,17 @@ fn block_spelled(x: u16) -> u8
 
 // The slot of a pair. The arms meet, and no test has more than two of them: so each becomes a choice between values and none a jump, which would be
 // mispredicted with states at random (docs/PERFORMANCE.md).
+#[tactic(auto, using(crate::proofs::DirectoryLaws::invalid_spelled, crate::proofs::DirectoryLaws::modified_spelled, crate::proofs::DirectoryLaws::shared_spelled))]
 fn slot_spelled(x: u16) -> Slot
     ensures { result ≡ slot_spelled (x % 256) (x / 256) }
 {
     let block = block_spelled(x);
     if x == 0 {
         Slot::Invalid
+    } else if x % 256 == 2 {
+        Slot::Modified(block)
     } else {
-        if x % 256 == 2 {
-            Slot::Modified(block)
-        } else {
-            Slot::Shared(block)
-        }
+        Slot::Shared(block)
     }
 }
 
@@ -85,20 +63,17 @@ fn slot_spelled(x: u16) -> Slot
 fn byte_at(bytes: &[u8], place: usize) -> u8
     ensures { result ≡ get_or bytes.now place 0 }
 {
-    if place < bytes.len() { bytes[place] } else { 0 }
+    bytes.get(place).copied().unwrap_or(0)
 }
 
 // The sets of holders, if there are as many bytes as a directory has.
+#[tactic(auto, unfolding(crate::specs::Directory::sets_in))]
 fn sets_in(bytes: &[u8]) -> [u8; 64]
     ensures { result ≡ sets_in bytes.now }
 {
-    let mut holders = [0u8; 64];
+    let mut holders = [0; 64];
     if bytes.len() == 194 {
-        let mut b = 0;
-        while b < 64 {
-            holders[b] = bytes[130 + b];
-            b += 1;
-        }
+        holders.copy_from_slice(&bytes[130..194]);
     }
     holders
 }
@@ -116,11 +91,10 @@ pub fn decode(bytes: &[u8]) -> Directory
     }; 64];
     if (bytes.len() == 194) & (set <= 15) & (steal <= 1) {
         let words = pairs(bytes);
-        let mut n = 0;
-        while n < 64 {
-            let s = slot_spelled(words[n]);
-            slots[n] = Entry { slot: s };
-            n += 1;
+        for n in 0..64 {
+            slots[n] = Entry {
+                slot: slot_spelled(words[n]),
+            };
         }
     }
     Directory {
@@ -130,45 +104,27 @@ pub fn decode(bytes: &[u8]) -> Directory
     }
 }
 
-// The bytes of a directory's slots, into the first 128 of the lent space. It stays if it is too small for a directory.
-fn encode_slots(d: Directory, out: &mut [u8])
-    ensures { out.new ≡ slots_put d out.old }
+// The bytes of a directory's slots, into the first 128 of the lent space.
+fn encode_slots(slots: [Entry; 64], out: &mut [u8])
+    requires { 128 ≤ length out.old }
+    ensures { out.new ≡ slot_bytes 64 (of_slots slots) ++ drop 128 out.old }
 {
-    if out.len() < 194 {
-        return;
-    }
-    let slots = d.slots;
-    let mut n = 0;
-    while n < 64 {
-        let e = slots[n];
-        let s = e.slot;
-        out[2 * n] = state_of(s);
-        out[2 * n + 1] = block_of(s);
-        n += 1;
+    for n in 0..64 {
+        let slot = slots[n].slot;
+        out[2 * n] = rank(slot);
+        out[2 * n + 1] = block_or(slot, 0);
     }
 }
 
-// The bytes of its sets of holders, into their places.
-fn encode_sets(d: Directory, out: &mut [u8])
-    ensures { out.new ≡ sets_put d out.old }
-{
-    if out.len() < 194 {
-        return;
-    }
-    let holders = d.holders;
-    let mut b = 0;
-    while b < 64 {
-        out[130 + b] = holders[b];
-        b += 1;
-    }
-}
-
-// The bytes of what a call leaves: the slots and the sets of holders. Those of the settings stay.
+// The bytes of what a call leaves: the slots and the sets of holders. Those of the settings stay, and all of a space that is too small for a directory.
 pub fn encode_left(d: Directory, out: &mut [u8])
     ensures { out.new ≡ left_put d out.old }
 {
-    encode_slots(d, out);
-    encode_sets(d, out);
+    if out.len() < 194 {
+        return;
+    }
+    encode_slots(d.slots, out);
+    out[130..194].copy_from_slice(&d.holders);
 }
 
 // The bytes of a directory, into the first 194 of the lent space. It stays if it is too small.
@@ -177,8 +133,7 @@ pub fn encode(d: Directory, out: &mut [u8])
 {
     encode_left(d, out);
     if 194 <= out.len() {
-        let settings = d.settings;
-        out[128] = set_of(settings);
-        out[129] = flag_number(settings.steal) as u8;
+        out[128] = set_of(d.settings);
+        out[129] = u8::from(d.settings.steal);
     }
 }
