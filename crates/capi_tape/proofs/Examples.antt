@@ -7,7 +7,7 @@ use Rattle.number.specs.Number.{limit_of, carried, read_groups, refusing, number
 use Rattle.number.specs.Number as number
 use Rattle.tape_format.specs.Field.{retried_most, allowed, ruled, field_at}
 use Rattle.tape_format.specs.Record.{load, store, flush, order, answer, register, loaded, stamp, layout_of, and_then, and_command, fields_at, kind_at, record_at, record_told, kind_of, fields_of, fits, fits_command}
-use Rattle.tape_format.specs.Write.{valid, bytes_of, written_of, written_refusal, space_after}
+use Rattle.tape_format.specs.Write.{valid, bytes_of, written_of, space_after}
 use Rattle.tape_writer.specs.Numbers.{padded}
 use Rattle.crossing.specs.Capped.{capped}
 use Rattle.record_numbers.specs.Entry.{store_from, order_with, order_from, answer_from, register_from, loaded_from, kind_from, record_from, count_or}
@@ -18,7 +18,7 @@ pub examples : Examples
 unfolding
     Option-elim command_number command_of flag limit_of carried read_groups refusing number_at spell_groups spell spell_all number.filled
     retried_most allowed ruled field_at load store flush order answer register loaded stamp layout_of and_then and_command fields_at kind_at record_at record_told
-    kind_of fields_of fits fits_command valid bytes_of written_of written_refusal space_after padded capped
+    kind_of fields_of fits fits_command valid bytes_of written_of space_after padded capped
     filled read_returned numbers_left next_left store_from order_with order_from answer_from register_from loaded_from kind_from record_from
     write_returned space_left count_or written_left wrote read
 examples =

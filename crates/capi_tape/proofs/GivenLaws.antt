@@ -7,15 +7,15 @@ use mathlib.Core.List.{List, ◌∷◌, ◌++◌}
 use lib.ListN.{length, drop}
 use lib.Dec.{leb}
 use Rattle.number.specs.Number.{filled}
-use Rattle.order.specs.Refusal.{field_range, no_room}
+use Rattle.std.specs.Prelude.{Result, Ok, Err}
+use Rattle.order.specs.declared.Refusal.{Refusal}
+use Rattle.order.specs.declared.Refusal.TheVariants.{FieldRange, NoRoom}
+use Rattle.order.specs.Refusal.{number_of}
 use Rattle.tape_format.specs.declared.Record.{Record}
-use Rattle.tape_format.specs.declared.Written.TheVariants as wrote
 use Rattle.tape_format.specs.Record.{kind_of, fields_of}
 use Rattle.tape_format.specs.Ranges.{InRange}
-use Rattle.tape_format.specs.Write.{valid, bytes_of, written_of, written_refusal, space_after}
+use Rattle.tape_format.specs.Write.{valid, bytes_of, written_of, space_after}
 use Rattle.tape_format.proofs.RangeLaws.{in_range_lem}
-use Rattle.record_numbers.specs.declared.RecordFound.{RecordFound}
-use Rattle.record_numbers.specs.declared.RecordFound.TheVariants as found
 use Rattle.record_numbers.specs.Entry.{record_from, count_or, Forth}
 use Rattle.record_numbers.proofs.ForthLaws.{forth}
 use Rattle.record_numbers.proofs.NumberedLaws.{Numbered, numbered}
@@ -25,12 +25,12 @@ use Rattle.capi_tape.specs.Calls.{write_returned, space_left, written_left, Writ
 Accepted : Record → List ℕ → ℕ → Type 0
 Accepted r s w = (InRange r) × (count_or (written_of r (length s)) w ≡ length (bytes_of r)) × (space_after r s ≡ bytes_of r ++ drop (length (bytes_of r)) s)
 
-accepted : (r : Record) (s : List ℕ) (w : ℕ) → written_refusal (written_of r (length s)) ≡ 0 → Accepted r s w
-unfolding Accepted written_of space_after filled written_refusal count_or
+accepted : (r : Record) (s : List ℕ) (w : ℕ) → number_of (written_of r (length s)) ≡ 0 → Accepted r s w
+unfolding Accepted written_of space_after filled count_or
 accepted r s w e = go (valid r) refl (leb (length (bytes_of r)) (length s)) refl e
   where
     go : (t : Bool) → valid r ≡ t → (u : Bool) → leb (length (bytes_of r)) (length s) ≡ u
-        → written_refusal (cond t (cond u (wrote.Bytes (length (bytes_of r))) (wrote.Refused no_room)) (wrote.Refused field_range)) ≡ 0 → Accepted r s w
+        → number_of (cond t (cond u (Ok (length (bytes_of r))) (Err NoRoom)) (Err FieldRange)) ≡ 0 → Accepted r s w
     go true v true l x = (in_range_lem r v, rw (v, l), rw (v, l))
     go true v false l x = absurd (omega arith)
     go false v u l x = absurd (omega arith)
@@ -39,8 +39,8 @@ pub writes_given : WritesGiven
 unfolding WritesGiven Forth Accepted Numbered write_returned written_left space_left
 writes_given numbers s w e = go (record_from numbers) refl (numbered numbers) e
   where
-    go : (f : RecordFound) → record_from numbers ≡ f → Numbered f → write_returned f s ≡ 0
+    go : (f : Result Record Refusal) → record_from numbers ≡ f → Numbered f → write_returned f s ≡ 0
         → (r : Record) × ((behind : List ℕ) × (numbers ≡ (kind_of r ∷ fields_of r) ++ behind)) × (written_left f s w ≡ length (bytes_of r))
         × (space_left f s ≡ bytes_of r ++ drop (length (bytes_of r)) s)
-    go (found.Known r) q h x = let (i, c, b) = accepted r s w x in (r, forth numbers r q i, c, b)
-    go (found.Refused number) q h x = absurd (omega arith)
+    go (Ok r) q h x = let (i, c, b) = accepted r s w x in (r, forth numbers r q i, c, b)
+    go (Err refusal) q h x = absurd (omega arith)

@@ -1,3 +1,2 @@
-pub mod CallLaws
 pub mod GivenLaws
 pub mod Examples

@@ -1,12 +1,11 @@
 -- What reading and writing a record through the C interface answer and leave.
-use Rattle.std.specs.Prelude.{ℕ, ◌≡◌, cond, List, [], ◌∷◌, ◌++◌, length, drop, leb}
-use Rattle.order.specs.Refusal.{no_room}
+use Rattle.std.specs.Prelude.{ℕ, ◌≡◌, Result, Ok, Err, cond, List, [], ◌∷◌, ◌++◌, length, drop, leb}
+use Rattle.order.specs.declared.Refusal.{Refusal}
+use Rattle.order.specs.Refusal.{refusal_number, number_of, no_room}
 use Rattle.tape_format.specs.declared.Record.{Record}
 use Rattle.tape_format.specs.Record.{record_at, record_told, kind_of, fields_of}
-use Rattle.tape_format.specs.Write.{bytes_of, written_of, written_refusal, space_after}
+use Rattle.tape_format.specs.Write.{bytes_of, written_of, space_after}
 use Rattle.tape_writer.specs.Numbers.{padded}
-use Rattle.record_numbers.specs.declared.RecordFound.{RecordFound}
-use Rattle.record_numbers.specs.declared.RecordFound.TheVariants as found
 use Rattle.record_numbers.specs.Entry.{record_width, record_from, count_or}
 
 -- ---- reading
@@ -30,17 +29,17 @@ next_left tape at s n = cond (leb record_width (length s)) (record_told at (reco
 -- ---- writing
 
 -- writing what the numbers named, into the space s
-unfoldable pub write_returned : RecordFound → List ℕ → ℕ
-write_returned (found.Known r) s = written_refusal (written_of r (length s))
-write_returned (found.Refused number) s = number
+unfoldable pub write_returned : Result Record Refusal → List ℕ → ℕ
+write_returned (Ok r) s = number_of (written_of r (length s))
+write_returned (Err refusal) s = refusal_number refusal
 
-unfoldable pub space_left : RecordFound → List ℕ → List ℕ
-space_left (found.Known r) s = space_after r s
-space_left (found.Refused number) s = s
+unfoldable pub space_left : Result Record Refusal → List ℕ → List ℕ
+space_left (Ok r) s = space_after r s
+space_left (Err refusal) s = s
 
-unfoldable pub written_left : RecordFound → List ℕ → ℕ → ℕ
-written_left (found.Known r) s w = count_or (written_of r (length s)) w
-written_left (found.Refused number) s w = w
+unfoldable pub written_left : Result Record Refusal → List ℕ → ℕ → ℕ
+written_left (Ok r) s w = count_or (written_of r (length s)) w
+written_left (Err refusal) s w = w
 
 -- where writing returns 0, the numbers begin with those of a record, and the bytes at the start of the space are that record's: what is written is what was given
 unfoldable pub WritesGiven : Type 0

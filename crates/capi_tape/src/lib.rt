@@ -2,29 +2,17 @@
 // Each function is total, and a refused call writes nothing but what its contract says.
 #![tactic(auto)]
 
-ghost use Rattle.std.specs.Prelude.{◌≡◌, [], ◌∷◌, ◌++◌, ◌≤◌, length, drop};
-ghost use Rattle.record_numbers.specs.Entry.{record_width, record_from};
+ghost use Rattle.std.specs.Prelude.{◌≡◌, ℕ};
+ghost use Rattle.order.specs.Refusal.{number_of};
+ghost use Rattle.record_numbers.specs.Entry.{record_from, count_or};
 ghost use Rattle.capi_tape.specs.Calls.{read_returned, numbers_left, next_left, write_returned, space_left, written_left};
 
-use order::NO_ROOM;
-use record_numbers::{RecordFound, record_from};
-use tape_format::{RecordRead, Written};
-
-// Seven numbers, into the first places of the lent space.
-fn put_seven(out: &mut [u64], kind: u64, a: u64, b: u64, c: u64, d: u64, e: u64, f: u64)
-    requires { record_width ≤ length out.old }
-    ensures { out.new ≡ (kind ∷ a ∷ b ∷ c ∷ d ∷ e ∷ f ∷ []) ++ drop record_width out.old }
-{
-    out[0] = kind;
-    out[1] = a;
-    out[2] = b;
-    out[3] = c;
-    out[4] = d;
-    out[5] = e;
-    out[6] = f;
-}
+use order::Refusal;
+use record_numbers::record_from;
+use tape_writer::{numbers_of, write_record};
 
 // Reads the record at a place of the tape.
+#[tactic(auto, unfolding(crate::specs::Calls::read_returned, crate::specs::Calls::next_left, crate::specs::Calls::numbers_left, crate::specs::Calls::filled, tape_format::specs::Record::record_told))]
 #[unsafe(no_mangle)]
 pub extern "C" fn trainer_read_record(
     tape: &[u8],
@@ -35,28 +23,36 @@ pub extern "C" fn trainer_read_record(
     ensures { (result ≡ read_returned tape.now place numbers.old) × (next.new ≡ next_left tape.now place numbers.old next.old) × (numbers.new ≡ numbers_left tape.now place numbers.old) }
 {
     if numbers.len() < 7 {
-        return NO_ROOM as u32;
+        return Refusal::NoRoom.into();
     }
     match tape::read_record(tape, place) {
-        RecordRead::Record(r, after) => {
-            let spelled = tape_writer::numbers_of(r);
-            let v = spelled.values;
-            put_seven(numbers, v[0], v[1], v[2], v[3], v[4], v[5], v[6]);
+        Ok(Some((record, after))) => {
+            numbers[..7].copy_from_slice(&numbers_of(record).values);
             *next = after;
             0
         }
-        RecordRead::Finished => {
+        Ok(None) => {
             *next = place;
             0
         }
-        RecordRead::Refused(number, at) => {
-            *next = at;
-            number as u32
+        Err(refused) => {
+            *next = refused.place;
+            refused.refusal.into()
         }
     }
 }
 
+// Writes the record that numbers name: how many bytes it takes.
+#[tactic(auto, unfolding(crate::specs::Calls::write_returned, crate::specs::Calls::space_left, crate::specs::Calls::written_left, record_numbers::specs::Entry::count_or))]
+fn write_from(numbers: &[u64], space: &mut [u8]) -> Result<usize, Refusal>
+    ensures { (number_of result ≡ write_returned (record_from numbers.now) space.old) × (space.new ≡ space_left (record_from numbers.now) space.old) × ((w : ℕ) → count_or result w ≡ written_left (record_from numbers.now) space.old w) }
+{
+    let record = record_from(numbers)?;
+    write_record(record, space)
+}
+
 // Writes the record that seven numbers name.
+#[tactic(auto, unfolding(record_numbers::specs::Entry::count_or))]
 #[unsafe(no_mangle)]
 pub extern "C" fn trainer_write_record(
     numbers: &[u64],
@@ -65,14 +61,11 @@ pub extern "C" fn trainer_write_record(
 ) -> u32
     ensures { (result ≡ write_returned (record_from numbers.now) space.old) × (space.new ≡ space_left (record_from numbers.now) space.old) × (written.new ≡ written_left (record_from numbers.now) space.old written.old) }
 {
-    match record_from(numbers) {
-        RecordFound::Known(r) => match tape_writer::write_record(r, space) {
-            Written::Bytes(count) => {
-                *written = count;
-                0
-            }
-            Written::Refused(number) => number as u32,
-        },
-        RecordFound::Refused(number) => number as u32,
+    match write_from(numbers, space) {
+        Ok(count) => {
+            *written = count;
+            0
+        }
+        Err(refusal) => refusal.into(),
     }
 }
