@@ -6,7 +6,8 @@ ghost use Rattle.capi_start.specs.Start.{start_returned, start_cache, start_dire
 
 use boards::settings_of;
 use layout::encode;
-use order::{FIELD_RANGE, NO_ROOM, NO_UNIT};
+use machine::cold_directory;
+use order::Refusal;
 
 // Starts cold with the boards that the set `write_through` spells and with `steal` off (0) or on (1), and writes the directory.
 #[unsafe(no_mangle)]
@@ -20,17 +21,19 @@ pub extern "C" fn trainer_cold_start(
     ensures { (result ≡ start_returned memory.now cache.old write_through steal directory.old) × (cache.new ≡ start_cache memory.now cache.old write_through steal directory.old) × (directory.new ≡ start_directory write_through steal directory.old) }
 {
     if directory.len() < 194 {
-        return NO_ROOM as u32;
+        return Refusal::NoRoom.into();
     }
     if write_through > 15 {
-        return NO_UNIT as u32;
+        return Refusal::NoUnit.into();
     }
     if steal > 1 {
-        return FIELD_RANGE as u32;
+        return Refusal::FieldRange.into();
     }
     let settings = settings_of(write_through as u8, steal == 1);
-    let start = machine::cold_start(settings, memory, cache);
-    let left = start.directory;
-    encode(left, directory);
-    start.refusal as u32
+    // A cold start that the machine refuses has this directory too.
+    encode(cold_directory(settings), directory);
+    match machine::cold_start(settings, memory, cache) {
+        Ok(_) => 0,
+        Err(refusal) => refusal.into(),
+    }
 }

@@ -23,6 +23,7 @@ use Rattle.coherence.proofs.Cases.{true_or_false, eq_or_ne}
 use Rattle.coherence.proofs.ByteLaws.{length_block, length_put_block, length_put_word, block_same, block_other, word_same, word_other, word_block, word_in_block, word_elsewhere}
 use Rattle.coherence.proofs.SlotLaws.{size, slot_same, modified_is, is_modified, holds_is, modified_holds, shared_holds, holds_shared, holds_modified, holds_one, holds_invalid, invalid≢modified, shared≢modified, modified_one, place_lt, place_mod, place_unit, place_ne}
 use Rattle.coherence.proofs.Weights.{Enough, weight, debt_set}
+use Rattle.coherence.proofs.Counts.{own_is}
 use Rattle.coherence.proofs.Invariant.{Beside, change}
 use Rattle.coherence.proofs.Actions.{Keeps, cost, Good, good_none, held_place, give_keeps, give_cost, mark_cost, mark_same, mark_other, mark_keeps, drop_good, empty_good, each_good, Asks, ask_keeps}
 
@@ -311,8 +312,8 @@ load_keeps e p enough u a w l h m i = go (holds (slot_at w.directory (place u (a
 own_keeps : (e : ℕ) (p : Beside) → Enough e p.settings → (u b : ℕ) (w : Run) → u < 4 → b < 64 → through p.settings u ≡ false → Keeps p w
     → Keeps (cond (modified (slot_at w.directory (place u b)) b) p (take_over p b)) (own u b w)
     × (cost e (own u b w) ≤ cost e w + (1 + e)) × (slot_at (own u b w).directory (place u b) ≡ Modified b)
-unfolding own give
-own_keeps e p enough u b w l m o i = go (modified (slot_at w.directory n) b) (holds (slot_at w.directory n) b) refl refl
+unfolding give
+own_keeps e p enough u b w l m o i = rw (own_is u b w) (go (modified (slot_at w.directory n) b) (holds (slot_at w.directory n) b) refl refl)
   where
     n : ℕ
     n = place u b

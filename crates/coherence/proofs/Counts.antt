@@ -81,9 +81,16 @@ pub claim_given : (u b : ℕ) (w : Run) → given (claim u b w) ≡ given w
 unfolding claim mark
 claim_given u b w = expel_all_given u b w
 
-pub own_given : (u b : ℕ) (w : Run) → given (own u b w) ≤ given w + 4
+-- what a store of a copyback board does with its block; the other proofs cite this, so that no two long runs are compared
+pub own_is : (u b : ℕ) (w : Run)
+    → own u b w
+    ≡ cond (modified (slot_at w.directory (place u b)) b) w
+    (claim u b (cond (holds (slot_at w.directory (place u b)) b) (give u Invalidate b false w) (fetch u ModifiedRead b w)))
 unfolding own
-own_given u b w = go (modified (slot_at w.directory (place u b)) b) (holds (slot_at w.directory (place u b)) b)
+own_is u b w = refl
+
+pub own_given : (u b : ℕ) (w : Run) → given (own u b w) ≤ given w + 4
+own_given u b w = rw (own_is u b w) (go (modified (slot_at w.directory (place u b)) b) (holds (slot_at w.directory (place u b)) b))
   where
     w₁ : Run
     w₁ = give u Invalidate b false w

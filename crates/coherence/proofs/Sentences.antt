@@ -20,7 +20,7 @@ use Rattle.coherence.specs.declared.Call.TheVariants.{Load, Store, Flush}
 use Rattle.coherence.specs.Bytes.{block_at, put_block, word_at, put_word}
 use Rattle.coherence.specs.Settings.{through}
 use Rattle.coherence.specs.Slots.{place, slot_at, set_slot, slot_of, holds, modified, kept, owner_of, sound, Kinds, SetsTrue, cold_directory}
-use Rattle.coherence.specs.Access.{Run, ready, give, mark, write_back, copyback, emptied, empty, yield, reads, stolen, asked, ask, fill, fetch, each_unit, expel, claim, cache_place, write, load, own, write_through, store_through, store, flush}
+use Rattle.coherence.specs.Access.{Run, ready, give, mark, write_back, copyback, emptied, empty, yield, reads, stolen, asked, ask, fill, fetch, each_unit, expel, claim, cache_place, write, load, write_through, store_through, store, flush}
 use Rattle.coherence.specs.Refusal.{sized, is_unit, is_block, start_refusal, peek_refusal}
 use Rattle.coherence.specs.Calls.{unit_of, is_target, refusal, act, loaded, settle, after, value_of, answer, memory_after, cache_after, start_answer, cache_started}
 use Rattle.coherence.specs.Peek.{from_cache, newest_block, newest, peeked, peek_from_cache, peek_offset}
@@ -31,7 +31,7 @@ use Rattle.coherence.proofs.SlotLaws.{size, size_set, slot_same, slot_other, hol
 use Rattle.coherence.proofs.HolderLaws.{Sets, kept_same, sets_kept, held_cold}
 use Rattle.coherence.proofs.Rules.{sound_placed, sound_exclusive, sound_sets_lem, tests_rules}
 use Rattle.coherence.proofs.RefusalLaws.{call_tests, start_tests, peek_tests, all_pass, sized_say, sized_true}
-use Rattle.coherence.proofs.Counts.{orders_in_lem}
+use Rattle.coherence.proofs.Counts.{own_is, orders_in_lem}
 use Rattle.coherence.proofs.Shapes.{answer_settings}
 
 -- ---- an accepted call
@@ -567,9 +567,9 @@ module _ (d : Directory) (m k : List ℕ) (z : size d ≡ 64) (z₂ : length d.h
 
   store_modified_lem : (u a v : ℕ) → refusal d m k (Store u a v) ≡ 0 → through d.settings u ≡ false → slot_at d (place u (a / 32)) ≡ Modified (a / 32)
       → Leaves d m [] (put_word k (word_place u a) v) (after d m k (Store u a v))
-  unfolding act store own write ready settle
+  unfolding act store write ready settle
   store_modified_lem u a v r c e =
-      rw (acts d m k (Store u a v) r, c, is_modified (slot_at d (place u (a / 32))) (a / 32) e)
+      rw (acts d m k (Store u a v) r, c, own_is u (a / 32) (ready d m k), is_modified (slot_at d (place u (a / 32))) (a / 32) e)
       (record {
         orders = refl;
         directory = kept_same d (accepted_sets d m k (Store u a v) z₂ r);
@@ -592,8 +592,8 @@ module _ (d : Directory) (m k : List ℕ) (z : size d ≡ 64) (z₂ : length d.h
 
   shares : (u a v : ℕ) → through d.settings u ≡ false → slot_at d (place u (a / 32)) ≡ Shared (a / 32)
       → act (Store u a v) (ready d m k) ≡ write u a v (claim u (a / 32) (give u Invalidate (a / 32) false (ready d m k)))
-  unfolding act store own ready
-  shares u a v c e = rw (c, not_modified_lem u (a / 32) e, shared_holds (slot_at d (place u (a / 32))) (a / 32) e) refl
+  unfolding act store ready
+  shares u a v c e = rw (c, own_is u (a / 32) (ready d m k), not_modified_lem u (a / 32) e, shared_holds (slot_at d (place u (a / 32))) (a / 32) e) refl
 
   store_shared_lem : (u a v : ℕ) → refusal d m k (Store u a v) ≡ 0 → through d.settings u ≡ false → slot_at d (place u (a / 32)) ≡ Shared (a / 32)
       → StoreShared d m k u a v (after d m k (Store u a v))
@@ -613,8 +613,8 @@ module _ (d : Directory) (m k : List ℕ) (z : size d ≡ 64) (z₂ : length d.h
 
   fetches : (u a v : ℕ) → through d.settings u ≡ false → holds (slot_at d (place u (a / 32))) (a / 32) ≡ false
       → act (Store u a v) (ready d m k) ≡ write u a v (claim u (a / 32) (fetch u ModifiedRead (a / 32) (ready d m k)))
-  unfolding act store own ready
-  fetches u a v c e = rw (c, missed_modified u (a / 32) e, e) refl
+  unfolding act store ready
+  fetches u a v c e = rw (c, own_is u (a / 32) (ready d m k), missed_modified u (a / 32) e, e) refl
 
   store_missed_lem : (u a v : ℕ) → refusal d m k (Store u a v) ≡ 0 → through d.settings u ≡ false → holds (slot_at d (place u (a / 32))) (a / 32) ≡ false
       → StoreMissed d m k u a v (after d m k (Store u a v))

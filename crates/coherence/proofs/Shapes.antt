@@ -17,6 +17,7 @@ use Rattle.coherence.specs.Slots.{place, slot_at, set_slot, holds, modified, kep
 use Rattle.coherence.specs.Access.{Run, ready, give, mark, write_back, copyback, emptied, empty, yield, stolen, asked, ask, fill, fetch, each_unit, expel, claim, write, load, own, write_through, store_through, store, flush}
 use Rattle.coherence.specs.Calls.{act, refusal, settle, after, answer}
 use lib.Dec.{ltb, eqb}
+use Rattle.coherence.proofs.Counts.{own_is}
 use Rattle.coherence.proofs.HolderLaws.{length_kept}
 
 abbrev Shape : Type 0
@@ -91,11 +92,11 @@ unfolding claim
 claim_shape u b w = mark_shape (place u b) (Modified b) (each_unit (expel u b) w) ∙ each_shape u b w
 
 own_shape : (u b : ℕ) (w : Run) → shape (own u b w) ≡ shape w
-unfolding own
 own_shape u b w =
     let x : Slot = slot_at w.directory (place u b) in
     let got : Run = cond (holds x b) (give u Invalidate b false w) (fetch u ModifiedRead b w) in
-    either (modified x b) w (claim u b got) (shape w) refl
+    ap (λ (v : Run). shape v) (own_is u b w)
+    ∙ either (modified x b) w (claim u b got) (shape w) refl
     (claim_shape u b got
     ∙ either (holds x b) (give u Invalidate b false w) (fetch u ModifiedRead b w) (shape w) (give_shape u Invalidate b false w) (fetch_shape u ModifiedRead b w))
 

@@ -16,10 +16,13 @@ use order::{Command, Refusal};
 use orders::{accepted, eviction_orders, fetch_orders, no_orders, one_order};
 use refusal::{check_call, is_address, is_sized};
 use slots::{
-    cache_place, claimed, cold_directory, fetched, has_modified, holds_block, is_through, owner,
+    cache_place, claimed, fetched, has_modified, holds_block, is_through, owner,
     place_of, set_slot, slot_at,
 };
 use write_through::store_through;
+
+// The directory of a cold start, whether or not it is refused.
+pub use slots::cold_directory;
 
 // All slots invalid and all sets of holders empty, with the chosen settings, and the cache store all zeros. Refused, it leaves the cache store as it was.
 pub fn cold_start(settings: Settings, memory: &[u8], cache: &mut [u8]) -> Result<Directory, Refusal>
