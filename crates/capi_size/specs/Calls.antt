@@ -1,20 +1,20 @@
 -- What asking how many bytes a record takes answers and leaves through the C interface, and that writing the record does what was answered.
-use Rattle.std.specs.Prelude.{ℕ, ◌≤◌, ◌<◌, ◌≡◌, List, length}
-use Rattle.tape_format.specs.Write.{written_refusal}
+use Rattle.std.specs.Prelude.{ℕ, ◌≤◌, ◌<◌, ◌≡◌, Result, Ok, Err, List, length}
+use Rattle.order.specs.declared.Refusal.{Refusal}
+use Rattle.order.specs.Refusal.{refusal_number, number_of}
+use Rattle.tape_format.specs.declared.Record.{Record}
 use Rattle.tape_format.specs.Size.{size_told}
-use Rattle.record_numbers.specs.declared.RecordFound.{RecordFound}
-use Rattle.record_numbers.specs.declared.RecordFound.TheVariants as found
 use Rattle.record_numbers.specs.Entry.{record_from, count_or}
 use Rattle.capi_tape.specs.Calls.{write_returned, written_left}
 
-unfoldable pub size_returned : RecordFound → ℕ
-size_returned (found.Known r) = written_refusal (size_told r)
-size_returned (found.Refused number) = number
+unfoldable pub size_returned : Result Record Refusal → ℕ
+size_returned (Ok r) = number_of (size_told r)
+size_returned (Err refusal) = refusal_number refusal
 
 -- the number `size`, which was w
-unfoldable pub size_left : RecordFound → ℕ → ℕ
-size_left (found.Known r) w = count_or (size_told r) w
-size_left (found.Refused number) w = w
+unfoldable pub size_left : Result Record Refusal → ℕ → ℕ
+size_left (Ok r) w = count_or (size_told r) w
+size_left (Err refusal) w = w
 
 -- for any numbers: the size is that of the smallest space in which they are written, and what is refused here is refused there, whatever the space s; a size that
 -- was n, a count that was w
