@@ -64,13 +64,16 @@ refusal_not_0 OutOfTurn e = omega arith
 refusal_not_0 HalvesDiffer e = omega arith
 refusal_not_0 Unreadable e = omega arith
 
+refusal_told : (x y : Refusal) (s t : State) → told (Err x) s ≡ told (Err y) t → x ≡ y
+unfolding told
+refusal_told x y s t e = sym (known x) ∙ ap (λ (a : Arbitration). numbered a.refusal) e ∙ known y
+
 returned_one : (r q : Result (Option Grant) Refusal) (s t : State) → told r s ≡ told q t → r ≡ q
 unfolding told
+returned_one (Err x) (Err y) s t e = ap Err (refusal_told x y s t e)
 returned_one (Ok g) (Ok h) s t e = ap (λ (a : Arbitration). Ok a.grant) e
 returned_one (Ok g) (Err y) s t e = absurd (refusal_not_0 y (sym (ap (λ (a : Arbitration). a.refusal) e)))
 returned_one (Err x) (Ok h) s t e = absurd (refusal_not_0 x (ap (λ (a : Arbitration). a.refusal) e))
-returned_one (Err x) (Err y) s t e =
-    ap Err (sym (known x) ∙ ap (λ (a : Arbitration). numbered a.refusal) e ∙ known y)
 
 left : (r : Result (Option Grant) Refusal) (s : State) → (told r s).state ≡ s
 unfolding told
