@@ -25,12 +25,12 @@ pub fn allows(rule: Rule, n: u64) -> bool
 {
     match rule {
         Rule::Unit => n <= 3,
-        Rule::Address => (n <= 2044) & (n % 4 == 0),
+        Rule::Address => n <= 2044 && n % 4 == 0,
         Rule::Word => n <= 4294967295,
         Rule::Block => n <= 63,
         Rule::Retried(command) => n <= retried_most(command),
         Rule::From => n <= 7,
-        Rule::To(from) => (n <= 7) & (n != from),
+        Rule::To(from) => n <= 7 && n != from,
         Rule::Byte => n <= 255,
         Rule::Flag => n <= 1,
         Rule::Bct => n <= 7,
