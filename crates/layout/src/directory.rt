@@ -6,10 +6,7 @@ ghost use Rattle.layout.specs.Directory.{Paired, slot_bytes, block_spelled, slot
 
 use boards::{set_of, settings_of};
 use coherence::{Directory, Entry, Slot};
-use slots::{block_or, rank};
-
-// A block that no slot may have.
-const NO_BLOCK: u8 = 255;
+use slots::{NO_BLOCK, block_or, rank};
 
 // A state and a block in one number.
 fn pair(state: u8, block: u8) -> u16

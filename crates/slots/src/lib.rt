@@ -11,6 +11,9 @@ ghost use Rattle.slots.specs.Directory.{block_or, of_slots, released, expelled_a
 
 use coherence::{Board, Directory, Entry, Kind, Settings, Slot};
 
+// A block that no slot may have.
+pub const NO_BLOCK: u8 = 255;
+
 #[tactic(auto, unfolding(coherence::specs::Slots::slot_at), using(crate::proofs::Sets::slot_far))]
 pub fn slot_at(slots: [Entry; 64], n: usize) -> Slot
     ensures { result ≡ slot_at (of_slots slots) n }

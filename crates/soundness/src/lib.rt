@@ -10,10 +10,7 @@ ghost use Rattle.soundness.specs.Soundness.{misplaced_in, conflict_of, faults_of
 
 use coherence::{Directory, Entry, Settings, Slot};
 use set_test::sets_sound;
-use slots::{block_or, is_through, rank};
-
-// What stands for the block of an invalid slot.
-const NO_BLOCK: u8 = 255;
+use slots::{NO_BLOCK, block_or, is_through, rank};
 
 // A slot's block and rank, as the test takes them.
 #[derive(Clone, Copy)]
@@ -42,7 +39,7 @@ fn ranks_of(slots: [Entry; 64]) -> [u8; 64]
     each(slots, rank)
 }
 
-// The block of each valid slot.
+// The block of each slot, of an invalid one a block that none may have.
 #[tactic(auto, unfolding(set_test::specs::Sets::SlotBySlot))]
 fn blocks_of(slots: [Entry; 64]) -> [u8; 64]
     ensures { SlotBySlot (λ x. block_or x no_block) slots 64 result }
