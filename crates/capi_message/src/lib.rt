@@ -31,8 +31,8 @@ pub extern "C" fn trainer_receive(
         return Refusal::NoRoom.into();
     }
     let before = receiver_from(receiver);
-    let (sequence, source) = operation_from(sequence, sender, aid);
-    match message::receive(before, store, sequence, source, bytes) {
+    let operation = operation_from(sequence, sender, aid, bytes);
+    match message::receive(before, store, operation) {
         Ok(done) => {
             put(done.receiver, receiver);
             put(done.completion, completion);

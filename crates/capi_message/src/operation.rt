@@ -1,10 +1,12 @@
 // An operation as numbers (Table 6, "Message sequence").
 ghost use Rattle.std.specs.Prelude.{◌≡◌};
+ghost use Rattle.message.specs.Given.{given};
 ghost use Rattle.message_rules.specs.Sender.{operation_at, sequence_found};
 ghost use Rattle.crossing.specs.Capped.{capped};
-ghost use Rattle.capi_message.specs.Operation.{sequence_from, operation_sender, number_found};
+ghost use Rattle.capi_message.specs.Operation.{operation_from, number_found};
 
 use crossing::capped;
+use message::Operation;
 use message_rules::{Sequence, Source};
 
 // A sender that no operation may have.
@@ -20,21 +22,26 @@ pub(crate) fn source_from(sender: u64, aid: u64) -> Source
     }
 }
 
-// An operation's sequence and source. A sequence number above 3 has its operation refused: its sender becomes none.
-#[tactic(auto, unfolding(crate::specs::Operation::sequence_from, crate::specs::Operation::operation_sender, message_rules::specs::Operation::sequence_numbered))]
-pub(crate) fn operation_from(sequence: u32, sender: u32, aid: u32) -> (Sequence, Source)
-    ensures { (result.0 ≡ sequence_from sequence) × (result.1.sender ≡ operation_sender sequence sender) × (result.1.aid ≡ capped 65535 aid) }
+// An operation from numbers and bytes. A sequence number above 3 has its operation refused: its sender becomes none.
+#[tactic(auto, unfolding(crate::specs::Operation::operation_from, crate::specs::Operation::sequence_from, crate::specs::Operation::operation_sender, message_rules::specs::Operation::operation, message_rules::specs::Operation::sequence_numbered))]
+pub(crate) fn operation_from(sequence: u32, sender: u32, aid: u32, bytes: &[u8]) -> Operation<'_>
+    ensures { given result ≡ operation_from sequence sender aid bytes.now }
 {
     let source = source_from(u64::from(sender), u64::from(aid));
     match Sequence::try_from(sequence) {
-        Ok(sequence) => (sequence, source),
-        Err(_) => (
-            Sequence::Last,
-            Source {
+        Ok(sequence) => Operation {
+            sequence,
+            source,
+            bytes,
+        },
+        Err(_) => Operation {
+            sequence: Sequence::Last,
+            source: Source {
                 sender: NO_SENDER,
                 ..source
             },
-        ),
+            bytes,
+        },
     }
 }
 

@@ -6,5 +6,6 @@ mod operation;
 mod receiver;
 mod sender;
 
+pub use operation::Operation;
 pub use receiver::receive;
 pub use sender::{divide, part_at, sequence_at};

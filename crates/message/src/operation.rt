@@ -4,6 +4,14 @@ ghost use Rattle.message_rules.specs.Operation.{is_source, starts, ends};
 
 use message_rules::{Sequence, Source};
 
+// One operation of a message transfer: its part in the message, where it comes from, and its bytes.
+#[derive(Clone, Copy)]
+pub struct Operation<'a> {
+    pub sequence: Sequence,
+    pub source: Source,
+    pub bytes: &'a [u8],
+}
+
 // Whether there are such a sender and such an AID.
 #[tactic(auto, unfolding(message_rules::specs::Operation::is_source))]
 pub(crate) fn is_source(source: Source) -> bool

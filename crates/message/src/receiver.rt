@@ -1,10 +1,10 @@
 // The receiving board's side: one operation at a time.
 ghost use Rattle.std.specs.Prelude.{◌≡◌};
 ghost use Rattle.order.specs.Refusal.{number_of};
-ghost use Rattle.message_rules.specs.Operation.{operation};
+ghost use Rattle.message.specs.Given.{given};
 ghost use Rattle.message_rules.specs.Receiver.{state_allowed, in_range, in_turn, is_expected, start_of, receive_refusal, receipt_told, receipt, store_after};
 
-use crate::operation::{is_end, is_source, is_start};
+use crate::operation::{Operation, is_end, is_source, is_start};
 use message_rules::{Accepted, Received, Receiver, Sequence, Source};
 use order::Refusal;
 use text::space::put_word;
@@ -14,14 +14,17 @@ use text::space::put_word;
 pub fn receive(
     receiver: Receiver,
     store: &mut [u8],
-    sequence: Sequence,
-    source: Source,
-    bytes: &[u8],
+    operation: Operation<'_>,
 ) -> Result<Accepted, Refusal>
-    ensures answer { receipt_told receiver result ≡ receipt receiver store.old (operation sequence source.sender source.aid bytes.now) }
-    ensures store { store.new ≡ store_after receiver store.old (operation sequence source.sender source.aid bytes.now) }
+    ensures answer { receipt_told receiver result ≡ receipt receiver store.old (given operation.entry) }
+    ensures store { store.new ≡ store_after receiver store.old (given operation.entry) }
 {
-    check(receiver, store, sequence, source, bytes)?;
+    check(receiver, store, operation)?;
+    let Operation {
+        sequence,
+        source,
+        bytes,
+    } = operation;
     let start = start_of(receiver);
     let count = start + put_word(store, start, bytes);
     let message = Some(Received { source, count });
@@ -38,15 +41,14 @@ pub fn receive(
 
 // The first test that fails refuses the operation.
 #[tactic(auto, unfolding(message_rules::specs::Operation::operation), using(message_rules::proofs::ReceiverTests::receive_tests, message_rules::proofs::ReceiverTests::start_small, message_rules::proofs::ReceiverTests::size_small))]
-fn check(
-    receiver: Receiver,
-    store: &[u8],
-    sequence: Sequence,
-    source: Source,
-    bytes: &[u8],
-) -> Result<(), Refusal>
-    ensures { number_of result ≡ receive_refusal receiver store.now (operation sequence source.sender source.aid bytes.now) }
+fn check(receiver: Receiver, store: &[u8], operation: Operation<'_>) -> Result<(), Refusal>
+    ensures { number_of result ≡ receive_refusal receiver store.now (given operation.entry) }
 {
+    let Operation {
+        sequence,
+        source,
+        bytes,
+    } = operation;
     if store.len() != 4096 {
         return Err(Refusal::WrongSize);
     }

@@ -2,6 +2,7 @@
 use crate::operations::operation;
 use crate::print::{Bytes, Name};
 use crate::store::{OTHER, fill, missing, show_changed};
+use message::Operation;
 use message_rules::{Received, Receiver, Source};
 use std::io;
 
@@ -42,8 +43,12 @@ fn give(
         return Ok(receiver);
     };
     print!(to; "operation {k} ")?;
-    let part = message::part_at(whole, source, k);
-    let next = operation(to, receiver, store, sequence, source, part)?;
+    let part = Operation {
+        sequence,
+        source,
+        bytes: message::part_at(whole, source, k),
+    };
+    let next = operation(to, receiver, store, part)?;
     println!(to)?;
     Ok(next)
 }
@@ -87,8 +92,7 @@ pub(crate) fn run_messages(to: &impl Print) -> io::Result<()> {
     let mut whole = [0u8; 4097];
     fill(&mut whole);
     for (sender, aid, length) in MESSAGES {
-        let length = length.min(whole.len());
-        send(to, &whole[..length], Source { sender, aid })?;
+        send(to, &whole[..length.min(4097)], Source { sender, aid })?;
     }
     Ok(())
 }

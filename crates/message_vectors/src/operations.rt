@@ -1,6 +1,7 @@
 // Single operations to a receiver in any state: what it accepts, each refusal, and the order of the refusals.
 use crate::print::{Bytes, Completion, Name, State};
 use crate::store::{OTHER, fill, show_changed};
+use message::Operation;
 use message_rules::{Received, Receiver, Sequence, Source};
 use std::io;
 
@@ -94,26 +95,18 @@ pub(crate) fn operation(
     to: &impl Print,
     receiver: Receiver,
     store: &mut [u8],
-    sequence: Sequence,
-    source: Source,
-    bytes: &[u8],
+    operation: Operation<'_>,
 ) -> io::Result<Receiver> {
     let given = Bytes(Received {
-        source,
-        count: bytes.len(),
+        source: operation.source,
+        count: operation.bytes.len(),
     });
-    let (refusal, next, completion) = match message::receive(
-        receiver, store, sequence, source, bytes,
-    ) {
+    print!(to; "{} {given}: refusal ", Name(operation.sequence))?;
+    let (refusal, next, completion) = match message::receive(receiver, store, operation) {
         Ok(accepted) => (0, accepted.receiver, accepted.completion),
         Err(refusal) => (refusal as u32, receiver, None),
     };
-    print!(to;
-        "{} {given}: refusal {refusal} {} {}",
-        Name(sequence),
-        State(next),
-        Completion(completion)
-    )?;
+    print!(to; "{refusal} {} {}", State(next), Completion(completion))?;
     Ok(next)
 }
 
@@ -125,19 +118,16 @@ pub(crate) fn run_operations(to: &impl Print) -> io::Result<()> {
             source: Source { sender, aid },
             count,
         });
-        let mut store = [OTHER; 4097];
-        let size = size.min(store.len());
-        let length = length.min(bytes.len());
-        print!(to; "receiver {} store {size} ", State(receiver))?;
-        operation(
-            to,
-            receiver,
-            &mut store[..size],
+        let given = Operation {
             sequence,
-            Source { sender, aid },
-            &bytes[..length],
-        )?;
-        show_changed(to, &store[..size])?;
+            source: Source { sender, aid },
+            bytes: &bytes[..length.min(257)],
+        };
+        let mut store = [OTHER; 4097];
+        let store = &mut store[..size.min(4097)];
+        print!(to; "receiver {} store {size} ", State(receiver))?;
+        operation(to, receiver, store, given)?;
+        show_changed(to, store)?;
         println!(to)?;
     }
     Ok(())

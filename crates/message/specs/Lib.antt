@@ -1,0 +1,2 @@
+-- What the code speaks of, as the rules do.
+pub mod Given
