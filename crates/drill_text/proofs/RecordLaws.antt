@@ -8,7 +8,7 @@ use lib.ListN.{length}
 use Rattle.coherence.proofs.PlainLaws.{load_accepted, store_accepted, flush_accepted}
 use Rattle.tape_format.specs.declared.Record.{Record}
 use Rattle.tape_format.specs.declared.Record.TheVariants as rec
-use Rattle.tape_format.specs.declared.RecordRead.TheVariants as read
+use Rattle.std.specs.Prelude.{Some, Ok}
 use Rattle.tape_format.specs.Record.{record_at, kind_of, fields_of}
 use Rattle.tape_format.specs.Write.{valid}
 use Rattle.reading.specs.Reading.{access_of}
@@ -37,7 +37,7 @@ valid_short (rec.Register f t a w x b) e = tt
 valid_short (rec.Loaded u v) e = tt
 valid_short (rec.Stamp c) e = tt
 
-module _ (t : List ℕ) (at : ℕ) (r : Record) (next : ℕ) (e : record_at t at ≡ read.Record r next) where
+module _ (t : List ℕ) (at : ℕ) (r : Record) (next : ℕ) (e : record_at t at ≡ Ok (Some (r, next))) where
   pub record_line : 11 * at + line_most (access_of r) ≤ 11 * next
   record_line = omega (arith, line_numbers r, record_long t at r next e)
 

@@ -7,12 +7,12 @@ use mathlib.Core.List.{List, [], append_assoc}
 use lib.ListN.{length}
 use Rattle.coherence.specs.declared.Call.{Call}
 use Rattle.coherence.specs.declared.Directory.{Directory}
-use Rattle.coherence.specs.declared.Answer.{Answer}
+use Rattle.coherence.specs.Answer.{Answer}
 use Rattle.coherence.specs.Calls.{answer, answers, memory_after, cache_after}
 use Rattle.coherence.specs.Demand3.{orders_in, orders_given}
 use Rattle.coherence.proofs.Counts.{answers_orders}
 use Rattle.tape_format.specs.declared.Record.{Record}
-use Rattle.reading.specs.declared.Access.TheVariants.{Asks, Other}
+use Rattle.std.specs.Prelude.{None, Some}
 use Rattle.drill_text.specs.declared.run.Progress.{Progress}
 use Rattle.reading.specs.Reading.{Ending, and_more, and_calls, calls_of, access_of}
 use Rattle.drill_format.specs.Line.{access_part, orders_part, call_line, lines}
@@ -29,23 +29,24 @@ pub answered_few : (r : Answer) (d : Directory) (m k : List ℕ) (c : Call) → 
 answered_few r d m k c e = rw e (answers_orders d m k c).few
 
 -- a call of the machine, and its line in two parts
-pub called : (c : Call) (s : Progress) (r : Answer) (m k o o₁ o₂ m' k' : List ℕ) (next at : ℕ)
+pub called : (c : Call) (s : Progress) (r : Answer) (m k o o₁ o₂ m' k' : List ℕ) (v n : ℕ) (d : Directory) (next at : ℕ)
     → r ≡ answer s.directory m k c → m' ≡ memory_after s.directory m k c → k' ≡ cache_after s.directory m k c
-    → Puts (access_part c r.value) o s.at o₁ next → Puts (orders_part r.orders.count) o₁ next o₂ at → r.value < 4294967296
-    → Called c s m k o (record { directory = r.directory; at = at; calls = s.calls + 1; orders = s.orders + r.orders.count }) m' k' o₂
+    → (v ≡ r.value) × (n ≡ r.orders.count) × (d ≡ r.directory)
+    → Puts (access_part c v) o s.at o₁ next → Puts (orders_part n) o₁ next o₂ at → v < 4294967296
+    → Called c s m k o (record { directory = d; at = at; calls = s.calls + 1; orders = s.orders + n }) m' k' o₂
 unfolding call_line
-called c s r m k o o₁ o₂ m' k' next at e em ek p q v =
-    let n : r.orders.count ≡ length (orders_in (answer s.directory m k c)) = ap (λ (x : Answer). x.orders.count) e ∙ sym (answers_orders s.directory m k c).counted in
-    let w : r.value ≡ (answer s.directory m k c).value = ap (λ (x : Answer). x.value) e in
+called c s r m k o o₁ o₂ m' k' v n d next at e em ek f p q b =
+    let w : v ≡ (answer s.directory m k c).value = f.0 ∙ ap (λ (x : Answer). x.value) e in
+    let i : n ≡ length (orders_in (answer s.directory m k c)) = f.1 ∙ ap (λ (x : Answer). x.orders.count) e ∙ sym (answers_orders s.directory m k c).counted in
     record {
-      directory = ap (λ (x : Answer). x.directory) e;
+      directory = f.2 ∙ ap (λ (x : Answer). x.directory) e;
       memory = em;
       cache = ek;
-      line = rw (n, w) at (both p q);
+      line = rw (i, w) at (both p q);
       calls = refl;
-      orders = ap (λ (x : ℕ). s.orders + x) n;
+      orders = ap (λ (x : ℕ). s.orders + x) i;
       few = rw (answers_orders s.directory m k c).counted (answers_orders s.directory m k c).few;
-      value = rw w at v;
+      value = rw w at b;
     }
 
 -- the last line counts a call and its orders before those that come later
@@ -56,7 +57,7 @@ later l a b c d e =
     rw (p, q)
 
 -- a record that asks a call adds the call's line
-pub asked : (i : Record) (c : Call) (s r : Progress) (m k o m' k' o' : List ℕ) → access_of i ≡ Asks c → Called c s m k o r m' k' o' → Took i s m k o r m' k' o'
+pub asked : (i : Record) (c : Call) (s r : Progress) (m k o m' k' o' : List ℕ) → access_of i ≡ Some c → Called c s m k o r m' k' o' → Took i s m k o r m' k' o'
 unfolding text_from and_more calls_of and_calls answers lines orders_given line_most
 asked i c s r m k o m' k' o' e q =
     record {
@@ -69,7 +70,7 @@ asked i c s r m k o m' k' o' e q =
     }
 
 -- any other record adds nothing
-pub passed : (i : Record) (s : Progress) (m k o : List ℕ) → access_of i ≡ Other → Took i s m k o s m k o
+pub passed : (i : Record) (s : Progress) (m k o : List ℕ) → access_of i ≡ None → Took i s m k o s m k o
 unfolding text_from and_more calls_of and_calls line_most
 passed i s m k o e =
     record {

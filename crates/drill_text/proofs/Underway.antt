@@ -6,8 +6,9 @@ use mathlib.Core.Path.{◌≡◌, refl, ◌∙◌}
 use mathlib.Core.List.{List, [], ◌++◌, append_assoc}
 use lib.ListN.{length}
 use Rattle.tape_format.specs.declared.Record.{Record}
-use Rattle.tape_format.specs.declared.RecordRead.{RecordRead}
-use Rattle.tape_format.specs.declared.RecordRead.TheVariants as read
+use Rattle.std.specs.Prelude.{Option, None, Some, Result, Ok, Err}
+use Rattle.number.specs.declared.Refused.{Refused}
+use Rattle.order.specs.Refusal.{refusal_number}
 use Rattle.tape_format.specs.Record.{record_at}
 use Rattle.coherence.specs.Calls.{answers}
 use Rattle.coherence.specs.Demand3.{orders_given}
@@ -59,10 +60,10 @@ begun t s m k o a n p =
 -- a record is taken
 module _ {t : List ℕ} {s₀ : Progress} {m₀ k₀ o₀ : List ℕ} {place : ℕ} {m k o : List ℕ} {s : Progress} (u : Underway t s₀ m₀ k₀ o₀ place m k o s) where
   pub onward : (i : Record) (next : ℕ) (m' k' o' : List ℕ) (r : Progress)
-      → record_at t place ≡ read.Record i next → Took i s m k o r m' k' o' → length m' ≡ length m → length k' ≡ length k → Underway t s₀ m₀ k₀ o₀ next m' k' o' r
+      → record_at t place ≡ Ok (Some (i, next)) → Took i s m k o r m' k' o' → length m' ≡ length m → length k' ≡ length k → Underway t s₀ m₀ k₀ o₀ next m' k' o' r
   unfolding read_on
   onward i next m' k' o' r e q lm lk =
-      let x : (f : ℕ) × (length t < suc (f + place)) × (read_from u.steps t place ≡ read_on place (read.Record i next) (read_from f t)) = next_read t u.steps place (read.Record i next) u.enough u.within e in
+      let x : (f : ℕ) × (length t < suc (f + place)) × (read_from u.steps t place ≡ read_on place (Ok (Some (i, next))) (read_from f t)) = next_read t u.steps place (Ok (Some (i, next))) u.enough u.within e in
       let p = record_place t place i next e in
       let h = q.short (record_short t place i next e) in
       record {
@@ -80,19 +81,19 @@ module _ {t : List ℕ} {s₀ : Progress} {m₀ k₀ o₀ : List ℕ} {place : �
       }
 
   -- the last line ends the text
-  ended : (line : List ℕ) (x : RecordRead) (o' : List ℕ) (r : ℕ) → record_at t place ≡ x
+  ended : (line : List ℕ) (x : Result (Option (Record × ℕ)) Refused) (o' : List ℕ) (r : ℕ) → record_at t place ≡ x
       → ((f : ℕ) → text_from s.directory m k s.calls s.orders (read_on place x (read_from f t)) ≡ line)
       → Puts line o s.at o' r → Puts (text_from s₀.directory m₀ k₀ 0 0 (read_all t)) o₀ 0 o' r
   ended line x o' r e l q =
       let y : (f : ℕ) × (length t < suc (f + place)) × (read_from u.steps t place ≡ read_on place x (read_from f t)) = next_read t u.steps place x u.enough u.within e in
       rw (u.text, y.2, l y.0) (both u.put q)
 
-  pub finished_text : (o' : List ℕ) (r : ℕ) → record_at t place ≡ read.Finished → Puts (total_line s.calls s.orders) o s.at o' r
+  pub finished_text : (o' : List ℕ) (r : ℕ) → record_at t place ≡ Ok None → Puts (total_line s.calls s.orders) o s.at o' r
       → Puts (text_from s₀.directory m₀ k₀ 0 0 (read_all t)) o₀ 0 o' r
   unfolding read_on text_from calls_of answers lines orders_given last_line
-  finished_text o' r e q = ended (total_line s.calls s.orders) read.Finished o' r e (λ f. simp add-zero) q
+  finished_text o' r e q = ended (total_line s.calls s.orders) (Ok None) o' r e (λ f. simp add-zero) q
 
-  pub refused_text : (number at : ℕ) (o' : List ℕ) (r : ℕ) → record_at t place ≡ read.Refused number at → Puts (refused_line number at) o s.at o' r
+  pub refused_text : (e : Refused) (o' : List ℕ) (r : ℕ) → record_at t place ≡ Err e → Puts (refused_line (refusal_number e.refusal) e.place) o s.at o' r
       → Puts (text_from s₀.directory m₀ k₀ 0 0 (read_all t)) o₀ 0 o' r
   unfolding read_on text_from calls_of answers lines orders_given last_line
-  refused_text number at o' r e q = ended (refused_line number at) (read.Refused number at) o' r e (λ f. refl) q
+  refused_text e o' r h q = ended (refused_line (refusal_number e.refusal) e.place) (Err e) o' r h (λ f. refl) q

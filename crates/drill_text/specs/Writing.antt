@@ -1,5 +1,5 @@
 -- What the functions that write the text, part after part, promise one another.
-use Rattle.std.specs.Prelude.{ℕ, ◌+◌, ◌≤◌, ◌<◌, ◌≡◌, List, ◌++◌, length}
+use Rattle.std.specs.Prelude.{ℕ, ◌+◌, ◌^◌, ◌≤◌, ◌<◌, ◌≡◌, Option, None, Some, List, ◌++◌, length}
 use Rattle.std.proofs.lemmas.List.Edits.{sets}
 use Rattle.coherence.specs.declared.Call.{Call}
 use Rattle.coherence.specs.declared.Call.TheVariants.{Load, Store, Flush}
@@ -7,8 +7,6 @@ use Rattle.coherence.specs.declared.Directory.{Directory}
 use Rattle.coherence.specs.Calls.{answer, answers, memory_after, cache_after}
 use Rattle.coherence.specs.Demand3.{orders_in, orders_given}
 use Rattle.tape_format.specs.declared.Record.{Record}
-use Rattle.reading.specs.declared.Access.{Access}
-use Rattle.reading.specs.declared.Access.TheVariants.{Asks, Other}
 use Rattle.drill_text.specs.declared.run.Progress.{Progress}
 use Rattle.reading.specs.Reading.{Reading, and_more, calls_of, access_of}
 use Rattle.drill_format.specs.Line.{call_line, lines}
@@ -19,6 +17,12 @@ pub record Puts (s o : List ℕ) (a : ℕ) (o' : List ℕ) (r : ℕ) : Type 0 wh
   pub next : r ≡ a + length s
   pub room : length o' ≡ length o
   pub bytes : r ≤ length o → o' ≡ sets o a s
+
+-- a record's line, its call and its orders can be counted on
+pub record Within (s : Progress) : Type 0 where
+  pub at : s.at < 2 ^ 36
+  pub calls : s.calls < 2 ^ 36
+  pub orders : s.orders < 2 ^ 36
 
 -- the text of what is still to be read, with the machine at d, m and k after so many calls and orders
 unfoldable pub text_from : Directory → List ℕ → List ℕ → ℕ → ℕ → Reading → List ℕ
@@ -38,16 +42,16 @@ pub record Called (c : Call) (s : Progress) (m k o : List ℕ) (r : Progress) (m
   pub value : (answer s.directory m k c).value < 4294967296
 
 -- the numbers of a call are as short as a tape's record can have them
-unfoldable pub Short : Access → Type 0
-Short (Asks (Load unit address)) = (unit < 10) × (address < 10000)
-Short (Asks (Store unit address value)) = (unit < 10) × (address < 10000) × (value < 4294967296)
-Short (Asks (Flush unit block)) = (unit < 10) × (block < 10000)
-Short Other = Unit {0}
+unfoldable pub Short : Option Call → Type 0
+Short (Some (Load unit address)) = (unit < 10) × (address < 10000)
+Short (Some (Store unit address value)) = (unit < 10) × (address < 10000) × (value < 4294967296)
+Short (Some (Flush unit block)) = (unit < 10) × (block < 10000)
+Short None = Unit {0}
 
 -- the most that a record's line takes
-unfoldable pub line_most : Access → ℕ
-line_most (Asks c) = 33
-line_most Other = 0
+unfoldable pub line_most : Option Call → ℕ
+line_most (Some c) = 33
+line_most None = 0
 
 -- a record, from the progress s: `part` is what it adds to the text
 pub record Took (i : Record) (s : Progress) (m k o : List ℕ) (r : Progress) (m' k' o' : List ℕ) : Type 0 where

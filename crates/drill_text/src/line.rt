@@ -1,12 +1,15 @@
 // The lines of a drill. Each function puts a part of the text at the place `at` of `out`, if it has room, and answers the place after it.
 ghost use Rattle.std.specs.Prelude.{◌+◌, ◌≤◌, ◌<◌, ◌^◌, ◌++◌, length};
+ghost use Rattle.order.specs.Refusal.{refusal_number};
 ghost use Rattle.drill_format.specs.Line.{field, access_part, orders_part, total_line, refused_line};
 ghost use Rattle.drill_text.specs.Writing.{Puts};
 
 use coherence::Call;
+use order::Refusal;
 use text::decimal::put_decimal;
 use text::space::put_word;
 
+#[tactic(auto, using(crate::proofs::WritingLaws::puts))]
 fn put(out: &mut [u8], at: usize, word: &[u8]) -> usize
     requires { (at < 2 ^ 40) × (length word.now ≤ 20) }
     ensures { Puts word.now out.old at out.new result }
@@ -14,6 +17,7 @@ fn put(out: &mut [u8], at: usize, word: &[u8]) -> usize
     at + put_word(out, at, word)
 }
 
+#[tactic(auto, using(crate::proofs::WritingLaws::puts, crate::proofs::WritingLaws::both, text::proofs::DecimalLaws::at_most_20), unfolding(drill_format::specs::Line::field, text::specs::Space::ascii))]
 fn put_field(out: &mut [u8], at: usize, n: u64) -> usize
     requires { at < 2 ^ 39 }
     ensures { Puts (field n) out.old at out.new result × (result ≤ at + 21) }
@@ -32,6 +36,7 @@ fn put_head(out: &mut [u8], at: usize, name: &[u8], unit: u8, target: u32) -> us
     put_field(out, third, target as u64)
 }
 
+#[tactic(auto, unfolding(drill_format::specs::Line::access_part, text::specs::Space::ascii))]
 pub(crate) fn put_access(out: &mut [u8], at: usize, call: Call, loaded: u32) -> usize
     requires { at < 2 ^ 37 }
     ensures { Puts (access_part call loaded) out.old at out.new result × (result ≤ at + 83) × (loaded < 4294967296) }
@@ -55,7 +60,7 @@ pub(crate) fn put_access(out: &mut [u8], at: usize, call: Call, loaded: u32) -> 
 
 pub(crate) fn put_orders(out: &mut [u8], at: usize, orders: u64) -> usize
     requires { at < 2 ^ 38 }
-    ensures { Puts (orders_part orders) out.old at out.new result }
+    ensures { Puts (orders_part orders) out.old at out.new result × (result ≤ at + 29) }
 {
     let second = put(out, at, b" orders");
     let third = put_field(out, second, orders);
@@ -82,6 +87,7 @@ fn put_pair(
     put(out, s, last)
 }
 
+#[tactic(auto, unfolding(drill_format::specs::Line::total_line, text::specs::Space::ascii))]
 pub(crate) fn put_total(out: &mut [u8], at: usize, calls: u64, orders: u64) -> usize
     requires { at < 2 ^ 38 }
     ensures { Puts (total_line calls orders) out.old at out.new result × (result ≤ at + 64) }
@@ -89,15 +95,16 @@ pub(crate) fn put_total(out: &mut [u8], at: usize, calls: u64, orders: u64) -> u
     put_pair(out, at, b"total", calls, b" calls", orders, b" orders\n")
 }
 
-pub(crate) fn put_refused(out: &mut [u8], at: usize, number: u8, place: usize) -> usize
+#[tactic(auto, unfolding(drill_format::specs::Line::refused_line, text::specs::Space::ascii))]
+pub(crate) fn put_refused(out: &mut [u8], at: usize, refusal: Refusal, place: usize) -> usize
     requires { at < 2 ^ 38 }
-    ensures { Puts (refused_line number place) out.old at out.new result × (result ≤ at + 64) }
+    ensures { Puts (refused_line (refusal_number refusal) place) out.old at out.new result × (result ≤ at + 64) }
 {
     put_pair(
         out,
         at,
         b"refused",
-        number as u64,
+        u64::from(u32::from(refusal)),
         b" at",
         place as u64,
         b"\n",

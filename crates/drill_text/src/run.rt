@@ -1,15 +1,17 @@
 // The records of a tape run in order on the machine, and the text that comes of it.
-ghost use Rattle.std.specs.Prelude.{◌+◌, ◌≤◌, ◌<◌, ◌^◌, length};
+ghost use Rattle.std.specs.Prelude.{◌≡◌, ◌≤◌, length};
+ghost use Rattle.coherence.specs.Calls.{told};
 ghost use Rattle.reading.specs.Reading.{read_all};
 ghost use Rattle.drill_format.specs.Drill.{tape_most, text_most};
-ghost use Rattle.drill_text.specs.Writing.{Puts, Called, Took, text_from};
+ghost use Rattle.drill_text.specs.Writing.{Puts, Within, Called, Took, text_from};
 
 use crate::line::{put_access, put_orders, put_refused, put_total};
-use coherence::{Call, Directory};
+use coherence::{Accepted, Call, Directory};
 use machine::run;
-use reading::{Access, access_of};
+use order::Refusal;
+use reading::access_of;
 use tape::read_record;
-use tape_format::{Record, RecordRead};
+use tape_format::Record;
 
 // A drill underway: the machine's directory, the place in the text, and the calls and orders so far.
 #[derive(Clone, Copy)]
@@ -20,6 +22,21 @@ pub struct Progress {
     pub orders: u64,
 }
 
+// The value and the number of orders that a call's line shows, and the directory after the call. A refused call has neither, and leaves the directory.
+#[tactic(auto, unfolding(coherence::specs::Calls::packed))]
+fn shown(before: Directory, answer: Result<Accepted, Refusal>) -> (u32, u64, Directory)
+    ensures { (result.0 ≡ (told before answer).value) × (result.1 ≡ (told before answer).orders.count) × (result.2 ≡ (told before answer).directory) }
+{
+    match answer {
+        Ok(accepted) => (
+            accepted.value,
+            accepted.orders.count as u64,
+            accepted.directory,
+        ),
+        Err(_) => (0, 0, before),
+    }
+}
+
 // One call of the machine, and its line.
 fn run_call(
     s: Progress,
@@ -28,18 +45,15 @@ fn run_call(
     out: &mut [u8],
     call: Call,
 ) -> Progress
-    requires { (s.at < 2 ^ 36) × (s.calls < 2 ^ 36) × (s.orders < 2 ^ 36) }
+    requires { Within s }
     ensures { Called call s memory.old cache.old out.old result memory.new cache.new out.new }
 {
-    let directory = s.directory;
-    let answer = run(directory, memory, cache, call);
-    let orders = answer.orders;
-    let count = orders.count as u64;
-    let next = put_access(out, s.at, call, answer.value);
+    let answer = run(s.directory, memory, cache, call);
+    let (value, count, directory) = shown(s.directory, answer);
+    let next = put_access(out, s.at, call, value);
     let at = put_orders(out, next, count);
-    let left = answer.directory;
     Progress {
-        directory: left,
+        directory,
         at,
         calls: s.calls + 1,
         orders: s.orders + count,
@@ -48,16 +62,18 @@ fn run_call(
 
 // One record of the tape.
 fn take(s: Progress, memory: &mut [u8], cache: &mut [u8], out: &mut [u8], item: Record) -> Progress
-    requires { (s.at < 2 ^ 36) × (s.calls < 2 ^ 36) × (s.orders < 2 ^ 36) }
+    requires { Within s }
     ensures { Took item s memory.old cache.old out.old result memory.new cache.new out.new }
 {
-    let Access::Asks(call) = access_of(item) else {
-        return s;
-    };
-    run_call(s, memory, cache, out, call)
+    match access_of(item) {
+        Some(call) => run_call(s, memory, cache, out, call),
+        None => s,
+    }
 }
 
-// All records of the tape, from the machine's state on, and the last line. The answer is how many bytes the text has.
+// All records of the tape, from the machine's state on, and the last line. The answer is how many bytes the text has. The loop stays a function of its own:
+// compiled into its caller it would move the directory byte by byte.
+#[inline(never)]
 pub(crate) fn run_tape(
     tape: &[u8],
     directory: Directory,
@@ -74,15 +90,15 @@ pub(crate) fn run_tape(
         calls: 0,
         orders: 0,
     };
-    let mut place: usize = 0;
+    let mut place = 0;
     loop {
         match read_record(tape, place) {
-            RecordRead::Record(item, next) => {
+            Ok(Some((item, next))) => {
                 s = take(s, memory, cache, out, item);
                 place = next;
             }
-            RecordRead::Finished => return put_total(out, s.at, s.calls, s.orders),
-            RecordRead::Refused(number, at) => return put_refused(out, s.at, number, at),
+            Ok(None) => return put_total(out, s.at, s.calls, s.orders),
+            Err(refused) => return put_refused(out, s.at, refused.refusal, refused.place),
         }
     }
 }

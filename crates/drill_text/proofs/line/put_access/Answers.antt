@@ -13,8 +13,3 @@ pub returns-in-Store : goal.returns-in-Store
 unfolding access_part ascii
 returns-in-Store c =
     rw c.in-Store.is (both c.put_head-next-in-Store.ensures.0 c.put_field-in-Store.ensures.0, omega (arith, c.put_head-next-in-Store.ensures.1), omega arith)
-
-pub returns-in-Flush : goal.returns-in-Flush
-unfolding access_part ascii
-returns-in-Flush c =
-    rw c.in-Flush.is (c.put_head.ensures.0, omega (arith, c.put_head.ensures.1), omega arith)
