@@ -8,10 +8,11 @@ use std::io::Write;
 
 fn main(rt: HostRuntime) -> io::Result<()> {
     let mut tape = [0u8; 65537];
-    let input = read_input(&mut rt.stdin(), &mut tape);
-    let size = input.size;
+    let input = match read_input(&mut rt.stdin(), &mut tape) {
+        Ok(size) => Some(&tape[..size]),
+        Err(_) => None,
+    };
     let mut text = [0u8; TEXT_MOST];
-    let drilled = drill_input(input.failed, &tape[..size], &mut text);
-    let count = drilled.count;
+    let count = drill_input(input, &mut text).unwrap();
     rt.stdout().write_all(&text[..count])
 }
