@@ -20,7 +20,7 @@ use Rattle.batch_rules.specs.declared.Outcome.{Outcome as Answered}
 use Rattle.batch_rules.specs.Outcome.{Outcome, refusal_told, told}
 use Rattle.batch_rules.specs.Batch.{Batch, batch, ran, none, opened, batch_result}
 use Rattle.batch_rules.proofs.RanLaws.{answered_few, ran_none, ran_still, ran_refused, ran_accepted}
-use Rattle.batch_rules.proofs.OutcomeLaws.{refused_number}
+use Rattle.order.proofs.RefusalLaws.{number_not_0}
 
 -- so many accesses made, and none refused
 abbrev pub accepted : ℕ → ℕ → Directory → Outcome
@@ -40,7 +40,7 @@ told_refused r = go r.refusal
   where
     go : (x : Option Refusal) → is_some x ≡ true → refusal_told x ≡ 0 → ⊥
     go None e = cc
-    go (Some x) e = refused_number r.directory x
+    go (Some x) e = number_not_0 x
 
 -- before a turn: what is left of the list ys comes to w, the result of the whole
 pub record Underway (ys : List Access) (w : Batch) (i orders : ℕ) (d : Directory) (vs m k : List ℕ) : Type 0 where
@@ -74,8 +74,8 @@ module _ {ys : List Access} {w : Batch} {i orders : ℕ} {d : Directory} {vs m k
         → batch (record { refusal = refusal_number refusal; index = i; orders = orders; directory = d }) vs m' k' ≡ w
     stops refusal e =
         let s : Outcome = record { refusal = refusal_number refusal; index = i; orders = orders; directory = d } in
-        sym (ran_still s vs m' k' (drop (i + 1) ys) (refused_number d refusal))
-        ∙ sym (ran_refused a (accepted i orders d) vs m k (told_call d (Err refusal)) m' k' (drop (i + 1) ys) refl e em ek (refused_number d refusal))
+        sym (ran_still s vs m' k' (drop (i + 1) ys) (number_not_0 refusal))
+        ∙ sym (ran_refused a (accepted i orders d) vs m k (told_call d (Err refusal)) m' k' (drop (i + 1) ys) refl e em ek (number_not_0 refusal))
         ∙ ap (ran (accepted i orders d) vs m k) (sym rest)
         ∙ u.same
 

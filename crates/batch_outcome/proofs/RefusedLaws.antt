@@ -8,13 +8,12 @@ use Rattle.std.specs.Bool.{then_some}
 use Rattle.std.specs.Option.{option_or}
 use Rattle.order.specs.declared.Refusal.{Refusal}
 use Rattle.order.specs.Refusal.{refusal_number}
-use Rattle.coherence.specs.declared.Directory.{Directory}
 use Rattle.batch_rules.specs.Outcome.{refusal_told}
-use Rattle.batch_rules.proofs.OutcomeLaws.{refused_number}
+use Rattle.order.proofs.RefusalLaws.{number_not_0}
 
-pub first_told : (d : Directory) (r p : Option Refusal) → refusal_told (option_or r p) ≡ cond (eqb (refusal_told r) 0) (refusal_told p) (refusal_told r)
-first_told d None p = refl
-first_told d (Some x) p = rw (ne_eqb (refusal_number x) 0 (refused_number d x))
+pub first_told : (r p : Option Refusal) → refusal_told (option_or r p) ≡ cond (eqb (refusal_told r) 0) (refusal_told p) (refusal_told r)
+first_told None p = refl
+first_told (Some x) p = rw (ne_eqb (refusal_number x) 0 (number_not_0 x))
 
 -- a refusal where a test does not pass
 pub unless_told : (passes : Bool) (refusal : Refusal) → refusal_told (then_some (not passes) refusal) ≡ cond passes 0 (refusal_number refusal)

@@ -26,7 +26,7 @@ pub extern "C" fn trainer_handler(state: &mut [u32]) -> u32
 }
 
 // One call of the handler: RQH, RQL, and LCK asserted (1) or not (0). A set of units that 16 bits do not hold becomes 65,535, which the handler refuses too.
-#[tactic(auto, unfolding(crate::specs::Arbitrate::arbitrate_returned, crate::specs::Arbitrate::arbitrate_state, crate::specs::Arbitrate::arbitrate_class, crate::specs::Arbitrate::arbitrate_unit, crate::specs::Arbitrate::arbitrated, handler::specs::Handler::told), using(handler::proofs::ToldLaws::refusal_not_0))]
+#[tactic(auto, unfolding(crate::specs::Arbitrate::arbitrate_returned, crate::specs::Arbitrate::arbitrate_state, crate::specs::Arbitrate::arbitrate_class, crate::specs::Arbitrate::arbitrate_unit, crate::specs::Arbitrate::arbitrated, handler::specs::Handler::told), using(order::proofs::RefusalLaws::number_not_0))]
 #[unsafe(no_mangle)]
 pub extern "C" fn trainer_arbitrate(
     state: &mut [u32],

@@ -14,7 +14,7 @@ use Rattle.order.specs.Refusal.{refusal_number}
 use Rattle.crossing.specs.Capped.{capped}
 use Rattle.message_rules.specs.declared.Received.{Received}
 use Rattle.message_rules.specs.declared.Accepted.{Accepted}
-use Rattle.message_rules.proofs.AnswerLaws.{refused_some}
+use Rattle.order.proofs.RefusalLaws.{number_pos}
 use Rattle.message_rules.specs.declared.Sequence.{Sequence}
 use Rattle.message_rules.specs.Operation.{Operation, operation, ends}
 use Rattle.message_rules.specs.Receiver.{Receiver, Receipt, receipt_told, completion_told, receive_refusal, taken, receipt, refused, store_after}
@@ -94,7 +94,7 @@ pub refused_left : (r st : List ℕ) (o : Operation) (c : List ℕ) (e : Refusal
     → receipt_told (receiver_from r) (Err e) ≡ receipt (receiver_from r) st o → st' ≡ store_after (receiver_from r) st o → n ≡ refusal_number e
     → Left r st o c n r st' c
 refused_left r st o c e n st' l h f k =
-    let z : eqb (refusal_number e) 0 ≡ false = ne_eqb _ 0 (λ q. absurd (omega (arith, refused_some e, q))) in
+    let z : eqb (refusal_number e) 0 ≡ false = ne_eqb _ 0 (λ q. absurd (omega (arith, number_pos e, q))) in
     handed_over r st o c (receipt_told (receiver_from r) (Err e)) n r st' c l h f (k, rw z refl, rw z refl)
 
 -- ---- calls that follow on each other

@@ -22,7 +22,7 @@ use Rattle.coherence.proofs.Theorem.{block_true, session_sound}
 use Rattle.holder_sets.proofs.SetLaws.{units_lt}
 use Rattle.std.specs.Prelude.{Result, Ok, Err}
 use Rattle.order.specs.declared.Refusal.{Refusal}
-use Rattle.coherence.proofs.AnswerLaws.{refusal_one, number_pos}
+use Rattle.order.proofs.RefusalLaws.{refusal_one, number_pos}
 use Rattle.holders.specs.declared.BlockHolders.{BlockHolders}
 use Rattle.holders.specs.Holders.{HoldersAnswer, holders_refusal, holders_refused, holders_answer, told_holders, HoldersTellApart, HoldsBlock, TellsHolders, HoldersTold, HoldersKept, SaysRefused}
 

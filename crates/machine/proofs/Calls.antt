@@ -15,7 +15,7 @@ use Rattle.coherence.specs.Access.{Run, ready}
 use Rattle.coherence.specs.Slots.{kept}
 use Rattle.coherence.specs.Calls.{refusal, act, loaded, settle, after, value_of, packed, told, answer, memory_after, cache_after}
 use Rattle.coherence.specs.Sentences.{left}
-use Rattle.coherence.proofs.AnswerLaws.{number_pos}
+use Rattle.order.proofs.RefusalLaws.{number_pos}
 use Rattle.coherence.proofs.Steps.{loaded_settled}
 use Rattle.orders.specs.Orders.{accepted_answer}
 

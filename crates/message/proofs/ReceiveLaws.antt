@@ -12,7 +12,7 @@ use Rattle.text.specs.Space.{placed}
 use Rattle.message_rules.specs.declared.Sequence.{Sequence}
 use Rattle.message_rules.specs.Operation.{operation, ends}
 use Rattle.message_rules.specs.Receiver.{Receiver, brought, start_of, receive_refusal, refused, taken, receipt_told, receipt, store_after}
-use Rattle.message_rules.proofs.AnswerLaws.{refused_some}
+use Rattle.order.proofs.RefusalLaws.{number_pos}
 use Rattle.message_rules.proofs.ReceiverTests.{accepted_tests, accepted_placed}
 use Rattle.message_rules.proofs.ReceiverLaws.{accepted_answer, accepted_store, refused_answer, refused_store}
 
@@ -21,10 +21,10 @@ module _ (r : Receiver) (st : List ℕ) (q : Sequence) (s a : ℕ) (b : List ℕ
   pub refused_told : (e : Refusal) → refusal_number e ≡ receive_refusal r st (operation q s a b) → receipt_told r (Err e) ≡ receipt r st (operation q s a b)
   unfolding refused
   refused_told e h =
-      rw h (sym (refused_answer r st (operation q s a b) (λ z. absurd (omega (arith, refused_some e, h, z)))))
+      rw h (sym (refused_answer r st (operation q s a b) (λ z. absurd (omega (arith, number_pos e, h, z)))))
 
   pub refused_kept : (e : Refusal) → refusal_number e ≡ receive_refusal r st (operation q s a b) → st ≡ store_after r st (operation q s a b)
-  refused_kept e h = sym (refused_store r st (operation q s a b) (λ z. absurd (omega (arith, refused_some e, h, z))))
+  refused_kept e h = sym (refused_store r st (operation q s a b) (λ z. absurd (omega (arith, number_pos e, h, z))))
 
   -- an accepted one, with which the message has n bytes
   pub accepted_room : 0 ≡ receive_refusal r st (operation q s a b) → start_of r + length b ≤ 4096

@@ -8,7 +8,7 @@ use message_rules::{Sequence, Source};
 use order::Refusal;
 
 // How many operations the message makes.
-#[tactic(auto, unfolding(message_rules::specs::Sender::division, message_rules::specs::Sender::operation_count), using(message_rules::proofs::AnswerLaws::refused_some))]
+#[tactic(auto, unfolding(message_rules::specs::Sender::division, message_rules::specs::Sender::operation_count), using(order::proofs::RefusalLaws::number_pos))]
 pub fn divide(message: &[u8], source: Source) -> Result<usize, Refusal>
     ensures { division_told result ≡ division message.now source.sender source.aid }
 {

@@ -1,90 +1,32 @@
 -- Different answers of the code are told differently; and a sequence and its number determine each other.
 use Prim.Native.Nat.{ℕ, ◌≤◌}
 use native.Mathlib.Omega.{arith}
-use mathlib.Core.Path.{◌≡◌, refl, sym, ap, ◌∙◌}
+use mathlib.Core.Path.{◌≡◌, refl, sym, ap}
 use mathlib.Core.Bool.{Bool, true, false, cond}
 use lib.Dec.{eqb}
 use borrow.Author.Tests.{eqb-true}
 use Rattle.std.specs.Prelude.{Some, None, Ok, Err}
-use Rattle.order.specs.declared.Refusal.{Refusal}
-use Rattle.order.specs.declared.Refusal.TheVariants.{WrongSize, BrokenDirectory, NoUnit, BadAddress, Cut, BadNumber, UnknownKind, FieldRange, NoRoom, BadState, OtherSource, OutOfTurn, HalvesDiffer, Unreadable}
-use Rattle.order.specs.Refusal.{refusal_number}
+use Rattle.order.proofs.RefusalLaws.{refusal_one, number_pos}
 use Rattle.message_rules.specs.declared.Sequence.{Sequence}
 use Rattle.message_rules.specs.declared.Sequence.TheVariants.{Single, First, Middle, Last}
 use Rattle.message_rules.specs.Operation.{sequence_number, sequence_numbered, SequenceNumbers}
 use Rattle.message_rules.specs.Receiver.{Receipt, ReceiptsApart}
 use Rattle.message_rules.specs.Sender.{Division, DivisionsApart}
 
--- ---- refusals by their numbers
-
--- the refusal that has the number n, the last for any other
-numbered : ℕ → Refusal
-numbered n =
-    cond (eqb n 1) WrongSize
-    (cond (eqb n 2) BrokenDirectory
-    (cond (eqb n 3) NoUnit
-    (cond (eqb n 4) BadAddress
-    (cond (eqb n 5) Cut
-    (cond (eqb n 6) BadNumber
-    (cond (eqb n 7) UnknownKind
-    (cond (eqb n 8) FieldRange
-    (cond (eqb n 9) NoRoom
-    (cond (eqb n 10) BadState
-    (cond (eqb n 11) OtherSource
-    (cond (eqb n 12) OutOfTurn
-    (cond (eqb n 17) HalvesDiffer
-    Unreadable))))))))))))
-
-numbered_back : (x : Refusal) → numbered (refusal_number x) ≡ x
-unfolding numbered
-numbered_back WrongSize = refl
-numbered_back BrokenDirectory = refl
-numbered_back NoUnit = refl
-numbered_back BadAddress = refl
-numbered_back Cut = refl
-numbered_back BadNumber = refl
-numbered_back UnknownKind = refl
-numbered_back FieldRange = refl
-numbered_back NoRoom = refl
-numbered_back BadState = refl
-numbered_back OtherSource = refl
-numbered_back OutOfTurn = refl
-numbered_back HalvesDiffer = refl
-numbered_back Unreadable = refl
-
-refusal_one : (x y : Refusal) → refusal_number x ≡ refusal_number y → x ≡ y
-refusal_one x y e = sym (numbered_back x) ∙ ap numbered e ∙ numbered_back y
-
-pub refused_some : (x : Refusal) → 1 ≤ refusal_number x
-refused_some WrongSize = omega arith
-refused_some BrokenDirectory = omega arith
-refused_some NoUnit = omega arith
-refused_some BadAddress = omega arith
-refused_some Cut = omega arith
-refused_some BadNumber = omega arith
-refused_some UnknownKind = omega arith
-refused_some FieldRange = omega arith
-refused_some NoRoom = omega arith
-refused_some BadState = omega arith
-refused_some OtherSource = omega arith
-refused_some OutOfTurn = omega arith
-refused_some HalvesDiffer = omega arith
-refused_some Unreadable = omega arith
-
 -- ---- answers
 
 pub receipts_apart : ReceiptsApart
 unfolding ReceiptsApart
 receipts_apart r (Ok a) (Ok b) e = ap (λ (x : Receipt). Ok (record { receiver = x.receiver; completion = x.completion })) e
-receipts_apart r (Ok a) (Err y) e = absurd (omega (arith, refused_some y, ap (λ (x : Receipt). x.refusal) e))
-receipts_apart r (Err x) (Ok b) e = absurd (omega (arith, refused_some x, ap (λ (z : Receipt). z.refusal) e))
+receipts_apart r (Ok a) (Err y) e = absurd (omega (arith, number_pos y, ap (λ (x : Receipt). x.refusal) e))
+receipts_apart r (Err x) (Ok b) e = absurd (omega (arith, number_pos x, ap (λ (z : Receipt). z.refusal) e))
 receipts_apart r (Err x) (Err y) e = ap Err (refusal_one x y (ap (λ (z : Receipt). z.refusal) e))
 
 pub divisions_apart : DivisionsApart
 unfolding DivisionsApart
 divisions_apart (Ok m) (Ok n) e = ap Ok (ap (λ (x : Division). x.operations) e)
-divisions_apart (Ok m) (Err y) e = absurd (omega (arith, refused_some y, ap (λ (x : Division). x.refusal) e))
-divisions_apart (Err x) (Ok n) e = absurd (omega (arith, refused_some x, ap (λ (z : Division). z.refusal) e))
+divisions_apart (Ok m) (Err y) e = absurd (omega (arith, number_pos y, ap (λ (x : Division). x.refusal) e))
+divisions_apart (Err x) (Ok n) e = absurd (omega (arith, number_pos x, ap (λ (z : Division). z.refusal) e))
 divisions_apart (Err x) (Err y) e = ap Err (refusal_one x y (ap (λ (z : Division). z.refusal) e))
 
 -- ---- sequences

@@ -14,7 +14,7 @@ use Rattle.order.specs.Refusal.{number_of, first_refusal}
 use Rattle.coherence.specs.declared.Directory.{Directory}
 use Rattle.coherence.specs.Slots.{sound, place}
 use Rattle.coherence.specs.Refusal.{sized, is_unit, is_block, unit_test, call_refusal, peek_refusal}
-use Rattle.coherence.proofs.AnswerLaws.{number_pos}
+use Rattle.order.proofs.RefusalLaws.{number_pos}
 use Rattle.coherence.proofs.SlotLaws.{place_lt}
 use Rattle.coherence.proofs.RefusalLaws.{peek_tests, all_pass, sized_say}
 

@@ -5,4 +5,4 @@ use Rattle.batch_outcome.proofs.refused_by.Goals as goal
 
 pub returns : goal.returns
 unfolding told refused_by
-returns c = rw (c.or.ensures, first_told c.args.s.directory c.args.s.refusal c.args.refusal)
+returns c = rw (c.or.ensures, first_told c.args.s.refusal c.args.refusal)

@@ -5,7 +5,7 @@ use Rattle.order.specs.Refusal.{refusal_number}
 use Rattle.std.specs.Prelude.{Ok, Err}
 use Rattle.crossing.specs.Capped.{capped}
 use Rattle.message_rules.specs.Sender.{Division, division, division_told}
-use Rattle.message_rules.proofs.AnswerLaws.{refused_some}
+use Rattle.order.proofs.RefusalLaws.{number_pos}
 use Rattle.capi_message.specs.Divide.{divide_operations}
 use Rattle.capi_message.proofs.DivideLaws.{divide_returned_lem, divide_refused, divide_accepted}
 use Rattle.capi_message.proofs.trainer_divide.Goals as goal
@@ -22,5 +22,5 @@ unfolding divide_operations
 returns-in-Err c =
     let a = c.args in
     let d : division_told (Err c.in-Err.refusal) ≡ division a.message.now (capped 255 a.sender) (capped 65535 a.aid) = cc (c.in-Err.ensures) in
-    let n : refusal_number c.in-Err.refusal ≢ 0 = λ z. absurd (omega (arith, refused_some c.in-Err.refusal, z)) in
+    let n : refusal_number c.in-Err.refusal ≢ 0 = λ z. absurd (omega (arith, number_pos c.in-Err.refusal, z)) in
     (c.into.ensures ∙ divide_returned_lem _ _ _ _ d, rw (divide_refused _ _ _ _ d n))

@@ -6,7 +6,7 @@ use Rattle.order.specs.Refusal.{refusal_number}
 use Rattle.std.specs.Prelude.{Ok, Err}
 use Rattle.crossing.specs.Capped.{capped}
 use Rattle.message_rules.specs.Sender.{Division, division, division_told, operation_at, sequence_found, part_found, part_offset}
-use Rattle.message_rules.proofs.AnswerLaws.{refused_some}
+use Rattle.order.proofs.RefusalLaws.{number_pos}
 use Rattle.message_rules.proofs.SenderTests.{start_within}
 use Rattle.capi_message.specs.Operation.{number_found}
 use Rattle.capi_message.specs.Divide.{operation_sequence, operation_offset, operation_length}
@@ -41,6 +41,6 @@ unfolding operation_sequence operation_offset operation_length
 returns-in-Err c =
     let a = c.args in
     let d : division_told (Err c.in-Err.refusal) ≡ division a.message.now (capped 255 a.sender) (capped 65535 a.aid) = cc (c.in-Err.ensures) in
-    let n : refusal_number c.in-Err.refusal ≢ 0 = λ z. absurd (omega (arith, refused_some c.in-Err.refusal, z)) in
+    let n : refusal_number c.in-Err.refusal ≢ 0 = λ z. absurd (omega (arith, number_pos c.in-Err.refusal, z)) in
     let q = divide_refused _ _ _ _ d n in
     (c.into.ensures ∙ divide_returned_lem _ _ _ _ d, rw q, rw q, rw q)
