@@ -15,7 +15,7 @@ use Rattle.coherence.specs.Slots.{sound}
 use Rattle.coherence.specs.Refusal.{sized, is_unit}
 use Rattle.coherence.specs.Calls.{refusal, unit_of, is_target}
 use Rattle.coherence.proofs.RefusalLaws.{call_tests, all_pass}
-use Rattle.batch_rules.specs.declared.Outcome.{Outcome}
+use Rattle.batch_rules.specs.Outcome.{Outcome}
 use Rattle.batch_rules.specs.Batch.{Batch, batch}
 use Rattle.batch_rules.specs.Numbers.{numbers_result}
 use Rattle.batch_rules.proofs.NumbersLaws.{Bounds, numbers_bounds}

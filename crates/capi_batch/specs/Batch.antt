@@ -1,7 +1,7 @@
 -- What a list of accesses through the C interface answers and leaves, from the directory's bytes d, the memory store m, the cache store k, the accesses'
 -- numbers ns and the space for values vs.
 use Rattle.std.specs.Prelude.{ℕ, ◌≡◌, cond, List, eqb}
-use Rattle.batch_rules.specs.declared.Outcome.{Outcome}
+use Rattle.batch_rules.specs.Outcome.{Outcome}
 use Rattle.batch_rules.specs.Batch.{Batch}
 use Rattle.batch_rules.specs.Numbers.{numbers_result}
 use Rattle.layout.specs.Directory.{decoded, encoded}

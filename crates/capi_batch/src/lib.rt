@@ -13,9 +13,8 @@ use layout::{decode, encode};
 fn put_directory(r: Outcome, directory: &mut [u8])
     ensures { directory.new ≡ cond (eqb r.index 0) directory.old (directory_put r.directory directory.old) }
 {
-    let left = r.directory;
     if r.index != 0 {
-        encode(left, directory);
+        encode(r.directory, directory);
     }
 }
 
@@ -37,5 +36,8 @@ pub extern "C" fn trainer_batch(
     put_directory(r, directory);
     *index = r.index as u32;
     *orders = r.orders as u32;
-    r.refusal as u32
+    match r.refusal {
+        None => 0,
+        Some(refusal) => refusal.into(),
+    }
 }
