@@ -14,7 +14,8 @@ fn group_count(n: u64) -> usize
     (64 - n.leading_zeros()).div_ceil(7).max(1) as usize
 }
 
-// Spells `n` from `at` on; the place after it. Of the groups from `next` on, `value` is still to be spelled.
+// Spells `n` from `at` on; the place after it. Of the groups from `next` on, `value` is still to be spelled: the loop goes by what is left of the number, and a `for`
+// over its places would count the groups first.
 fn put_number(out: &mut [u8], at: usize, n: u64) -> usize
     requires { at + length (spell n) ≤ length out.old }
     ensures { (result ≡ at + length (spell n)) × (out.new ≡ sets out.old at (spell n)) }
