@@ -93,16 +93,16 @@ pub fn numbers_of(item: Record) -> Numbers
 }
 
 // Every field is in its range. Those that a byte or 32 bits hold whole need no test; the test of a stamp is always passed, and gives the proof its range.
-#[tactic(auto, using(tape_format::proofs::WriteLaws::valid_load, tape_format::proofs::WriteLaws::valid_store, tape_format::proofs::WriteLaws::valid_flush, tape_format::proofs::WriteLaws::valid_order, tape_format::proofs::WriteLaws::valid_answer, tape_format::proofs::WriteLaws::valid_register, tape_format::proofs::WriteLaws::valid_loaded, tape_format::proofs::WriteLaws::valid_stamp, order::proofs::FlagLaws::flag_from_bool))]
+#[tactic(auto, unfolding(tape_format::specs::Write::valid, tape_format::specs::Record::layout_of, tape_format::specs::Record::kind_of, tape_format::specs::Record::fields_of, tape_format::specs::Record::fits, tape_format::specs::Record::fits_command, tape_format::specs::Record::load, tape_format::specs::Record::store, tape_format::specs::Record::flush, tape_format::specs::Record::order, tape_format::specs::Record::answer, tape_format::specs::Record::register, tape_format::specs::Record::loaded, tape_format::specs::Record::stamp, tape_format::specs::Field::allowed), using(order::proofs::FlagLaws::flag_from_bool, order::proofs::CommandLaws::command_of_number, tape_format::proofs::WriteLaws::valid_register))]
 fn valid(item: Record) -> bool
     ensures { result ≡ valid item }
 {
     match item {
         Record::Load(unit, address) | Record::Store(unit, address, _) => {
-            allows(Rule::Unit, unit.into()) & allows(Rule::Address, address.into())
+            allows(Rule::Unit, unit.into()) && allows(Rule::Address, address.into())
         }
         Record::Flush(unit, block) => {
-            allows(Rule::Unit, unit.into()) & allows(Rule::Block, block.into())
+            allows(Rule::Unit, unit.into()) && allows(Rule::Block, block.into())
         }
         Record::Order(
             Order {
@@ -113,15 +113,16 @@ fn valid(item: Record) -> bool
             },
         ) => {
             allows(Rule::Unit, unit.into())
-                & (allows(Rule::Block, block.into())
-                    & allows(Rule::Retried(command), retried.into()))
+                && allows(Rule::Block, block.into())
+                && allows(Rule::Retried(command), retried.into())
         }
         Record::Answer { from, to, .. } => {
-            allows(Rule::From, from.into()) & allows(Rule::To(from.into()), to.into())
+            allows(Rule::From, from.into()) && allows(Rule::To(from.into()), to.into())
         }
         Record::Register { from, to, bct, .. } => {
-            (allows(Rule::From, from.into()) & allows(Rule::To(from.into()), to.into()))
-                & allows(Rule::Bct, bct.into())
+            allows(Rule::From, from.into())
+                && allows(Rule::To(from.into()), to.into())
+                && allows(Rule::Bct, bct.into())
         }
         Record::Loaded(unit, _) => allows(Rule::Unit, unit.into()),
         Record::Stamp(cycles) => allows(Rule::Cycles, cycles),
