@@ -8,13 +8,25 @@ use lib.Dec.{leb}
 use lib.ListN.{length, take, drop}
 use lib.Seq.{take_at}
 use borrow.Author.Tests.{le-leb, lt-leb}
+use Rattle.std.specs.Prelude.{Result, Ok, Err}
+use Rattle.order.specs.declared.Refusal.{Refusal}
+use Rattle.order.specs.Refusal.{number_of}
+use Rattle.coherence.specs.declared.Settings.{Settings}
 use Rattle.coherence.specs.declared.Directory.{Directory}
+use Rattle.coherence.specs.Answer.{Start}
+use Rattle.coherence.specs.Refusal.{start_refusal}
 use Rattle.coherence.specs.Slots.{cold_directory}
-use Rattle.coherence.specs.Calls.{start_answer}
+use Rattle.coherence.specs.Calls.{start_answer, started}
 use Rattle.boards.specs.Boards.{settings_of}
 use Rattle.layout.specs.Directory.{directory_size, decoded, encoded, directory_put}
 use Rattle.layout.proofs.Inverse.{inverse, length_encoded}
 use Rattle.capi_start.specs.Start.{chosen, choosable, start_returned, start_cache, start_directory, Starts}
+
+-- the number that the machine's own cold start answers
+pub start_number : (g : Settings) (m k : List ℕ) (r : Result Directory Refusal) → started g r ≡ start_answer g m k → number_of r ≡ start_refusal m k
+unfolding start_answer
+start_number g m k (Ok d) e = ap (λ (s : Start). s.refusal) e
+start_number g m k (Err x) e = ap (λ (s : Start). s.refusal) e
 
 cold_back : (s t : ℕ) → decoded (encoded (cold_directory (chosen s t))) ≡ cold_directory (chosen s t)
 unfolding cold_directory chosen settings_of
@@ -33,10 +45,10 @@ on_or_off : (s : ℕ) → ((chosen s 1).steal ≡ true) × ((chosen s 0).steal �
 unfolding chosen settings_of
 on_or_off s = (refl, refl)
 
-started : (s t : ℕ) (d : List ℕ) → directory_size ≤ length d → s ≤ 15 → t ≤ 1
+begun : (s t : ℕ) (d : List ℕ) → directory_size ≤ length d → s ≤ 15 → t ≤ 1
     → decoded (take directory_size (start_directory s t d)) ≡ cold_directory (chosen s t)
 unfolding start_directory directory_put cold_directory
-started s t d h g f =
+begun s t d h g f =
     let x : Directory = cold_directory (chosen s t) in
     rw (choose s t g f, le-leb directory_size (length d) h)
     (ap decoded (take_at (encoded x) (drop directory_size d) directory_size (length_encoded x (refl))) ∙ cold_back s t)
@@ -57,7 +69,7 @@ starts m k s t d =
     record {
       returned = λ h g f. rw (le-leb directory_size (length d) h, le-leb s 15 g, le-leb t 1 f);
       cache = λ h g f. rw (le-leb directory_size (length d) h, choose s t g f);
-      directory = started s t d;
+      directory = begun s t d;
       steal = on_or_off s;
       no_room = λ h. rw (lt-leb directory_size (length d) h);
       no_unit = λ h g. rw (le-leb directory_size (length d) h, lt-leb s 15 g);

@@ -10,6 +10,7 @@ use machine::cold_directory;
 use order::Refusal;
 
 // Starts cold with the boards that the set `write_through` spells and with `steal` off (0) or on (1), and writes the directory.
+#[tactic(auto, unfolding(crate::specs::Start::chosen, crate::specs::Start::choosable, crate::specs::Start::start_returned, crate::specs::Start::start_cache, crate::specs::Start::start_directory, layout::specs::Directory::directory_put))]
 #[unsafe(no_mangle)]
 pub extern "C" fn trainer_cold_start(
     memory: &[u8],
