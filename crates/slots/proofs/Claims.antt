@@ -5,7 +5,7 @@ use Prim.Native.Nat.{ℕ, zero, suc, ◌+◌, ◌*◌, ◌%◌, ◌<◌}
 use native.Mathlib.Numerals.{add-one}
 use native.Mathlib.Omega.{arith}
 use lib.Dec.{eqb}
-use lib.ListN.{set}
+use lib.ListN.{set, get_or}
 use lib.Seq.{set-get_or}
 use Rattle.coherence.specs.declared.Slot.{Slot}
 use Rattle.coherence.specs.declared.Slot.TheVariants.{Invalid, Modified}
@@ -15,7 +15,7 @@ use mathlib.Core.List.{List}
 use Rattle.coherence.specs.Slots.{empty_entry, place, slot_at, set_slot, holds, modified, owner_of}
 use Rattle.coherence.proofs.Cases.{four}
 use Rattle.coherence.specs.Access.{Run, mark, expel, each_unit, claim}
-use Rattle.slots.specs.Directory.{released, release_into, expelled_at_once, claimed_at_once}
+use Rattle.slots.specs.Directory.{first_modified, released, release_into, expelled_at_once, claimed_at_once}
 use Rattle.coherence.proofs.SlotLaws.{slot_other}
 
 set_own : (d : Directory) (n : ℕ) → set_slot d n (slot_at d n) ≡ d
@@ -103,3 +103,18 @@ owner_found d b v l h e =
 pub owner_none : (d : Directory) (b : ℕ) → ((u : ℕ) → u < 4 → modified (slot_at d (place u b)) b ≡ false) → 4 ≡ owner_of d b
 unfolding owner_of
 owner_none d b h = rw (h 0 (omega arith), h 1 (omega arith), h 2 (omega arith), h 3 (omega arith)) refl
+
+-- and from the four slots in which it has its place
+place_at : (v b s : ℕ) → s ≡ b % 16 → place v b ≡ 16 * v + s
+unfolding place
+place_at v b s h = omega arith
+
+pub owner_column : (d : Directory) (b s : ℕ) → s ≡ b % 16
+    → first_modified (get_or d.slots s empty_entry).slot (get_or d.slots (16 + s) empty_entry).slot (get_or d.slots (32 + s) empty_entry).slot (get_or d.slots (48 + s) empty_entry).slot b ≡ owner_of d b
+unfolding first_modified owner_of slot_at
+owner_column d b s h =
+    let e₀ : place 0 b ≡ s = place_at 0 b s h ∙ omega arith in
+    let e₁ : place 1 b ≡ 16 + s = place_at 1 b s h ∙ omega arith in
+    let e₂ : place 2 b ≡ 32 + s = place_at 2 b s h ∙ omega arith in
+    let e₃ : place 3 b ≡ 48 + s = place_at 3 b s h ∙ omega arith in
+    rw (e₀, e₁, e₂, e₃) refl

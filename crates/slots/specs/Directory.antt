@@ -6,7 +6,7 @@ use Rattle.coherence.specs.declared.Slot.TheVariants.{Invalid, Shared, Modified}
 use Rattle.coherence.specs.declared.Entry.{Entry}
 use Rattle.coherence.specs.declared.Directory.{Directory}
 use Rattle.coherence.specs.Settings.{drill_settings}
-use Rattle.coherence.specs.Slots.{place, slot_at, set_slot, holds}
+use Rattle.coherence.specs.Slots.{place, slot_at, set_slot, holds, modified}
 
 -- the block of a valid slot, else s
 unfoldable pub block_or : Slot → ℕ → ℕ
@@ -17,6 +17,10 @@ block_or (Modified b) s = b
 -- a directory of these slots, which the code takes and gives without the settings and the sets: nothing that is said of slots depends on them
 abbrev pub of_slots : List Entry → Directory
 of_slots l = record { slots = l; settings = drill_settings; holders = [] }
+
+-- the first of the four units whose slot has block b modified, or 4
+unfoldable pub first_modified : Slot → Slot → Slot → Slot → ℕ → ℕ
+first_modified w x y z b = cond (modified w b) 0 (cond (modified x b) 1 (cond (modified y b) 2 (cond (modified z b) 3 4)))
 
 -- slot x of unit v, once unit u claims block b
 unfoldable pub released : Slot → ℕ → ℕ → ℕ → Slot
