@@ -8,8 +8,10 @@ use std::io;
 // Bytes of a message: the sender, the AID, and how many.
 type Of = (u8, u16, usize);
 
+type Row = (Option<Of>, usize, Sequence, Of);
+
 // A row for each operation: what the receiver has of a message, None where it is idle; the store's size; and the operation, its sequence and its bytes.
-const OPERATIONS: [(Option<Of>, usize, Sequence, Of); 58] = [
+const OPERATIONS: [Row; 58] = [
     // "First and Single start only from idle, at byte 0"; "Each operation carries 1 to 256 bytes"; "a sender above 7, an AID above 255"
     (None, 4096, Sequence::Single, (7, 255, 256)),
     (None, 4096, Sequence::Single, (0, 0, 1)),
@@ -110,25 +112,30 @@ pub(crate) fn operation(
     Ok(next)
 }
 
-pub(crate) fn run_operations(to: &impl Print) -> io::Result<()> {
+fn row(to: &impl Print, row: Row) -> io::Result<()> {
+    let (pending, size, sequence, (sender, aid, length)) = row;
+    let receiver = pending.map(|(sender, aid, count)| Received {
+        source: Source { sender, aid },
+        count,
+    });
     let mut bytes = [0u8; 257];
     fill(&mut bytes);
-    for (pending, size, sequence, (sender, aid, length)) in OPERATIONS {
-        let receiver = pending.map(|(sender, aid, count)| Received {
-            source: Source { sender, aid },
-            count,
-        });
-        let given = Operation {
-            sequence,
-            source: Source { sender, aid },
-            bytes: &bytes[..length.min(257)],
-        };
-        let mut store = [OTHER; 4097];
-        let store = &mut store[..size.min(4097)];
-        print!(to; "receiver {} store {size} ", State(receiver))?;
-        operation(to, receiver, store, given)?;
-        show_changed(to, store)?;
-        println!(to)?;
+    let given = Operation {
+        sequence,
+        source: Source { sender, aid },
+        bytes: &bytes[..length.min(257)],
+    };
+    let mut store = [OTHER; 4097];
+    let store = &mut store[..size.min(4097)];
+    print!(to; "receiver {} store {size} ", State(receiver))?;
+    operation(to, receiver, store, given)?;
+    show_changed(to, store)?;
+    println!(to)
+}
+
+pub(crate) fn run_operations(to: &impl Print) -> io::Result<()> {
+    for values in OPERATIONS {
+        row(to, values)?;
     }
     Ok(())
 }
