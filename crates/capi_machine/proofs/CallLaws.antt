@@ -7,22 +7,26 @@ use native.Mathlib.Omega.{arith}
 use lib.Dec.{leb, eqb}
 use lib.ListN.{length, take, drop}
 use lib.Seq.{drop-length}
-use borrow.Author.Tests.{le-leb, lt-leb, eqb-true, eq-eqb, ne_eqb}
+use borrow.Author.Tests.{le-leb, lt-leb, eqb-true, ne_eqb}
 use Rattle.coherence.specs.declared.Call.{Call}
-use Rattle.coherence.specs.declared.Answer.{Answer}
+use Rattle.coherence.specs.Answer.{Answer}
 use Rattle.coherence.specs.declared.Directory.{Directory}
-use Rattle.order.specs.Refusal.{first_refusal}
+use Rattle.std.specs.Prelude.{Result, Ok, Err}
+use Rattle.order.specs.declared.Refusal.{Refusal}
+use Rattle.order.specs.Refusal.{refusal_number, number_of, first_refusal}
+use Rattle.coherence.specs.declared.Accepted.{Accepted}
+use Rattle.order.proofs.RefusalLaws.{number_not_0}
 use Rattle.coherence.specs.Refusal.{sized, is_unit, is_block, size_test, directory_test, call_refusal}
 use Rattle.coherence.specs.Access.{ready}
 use Rattle.coherence.specs.Slots.{sound}
-use Rattle.coherence.specs.Calls.{refusal, after, answer, memory_after, cache_after, unit_of, is_target}
+use Rattle.coherence.specs.Calls.{told, refusal, after, answer, memory_after, cache_after, unit_of, is_target}
 use Rattle.coherence.specs.Demand3.{Answered}
 use Rattle.coherence.proofs.Counts.{answers_orders}
 use Rattle.coherence.proofs.Shapes.{answer_settings}
 use Rattle.layout.specs.Directory.{directory_size, decoded, front_bytes, encoded, slot_bytes, settings_bytes, left_put}
 use Rattle.answer_layout.specs.Answer.{answer_numbers, answer_put}
 use Rattle.crossing.proofs.CappedLaws.{caps}
-use Rattle.capi_machine.specs.Call.{Narrows, returned, directory_left, memory_left, cache_left, answer_left, RefusedLeaves}
+use Rattle.capi_machine.specs.Call.{directory_handed, answer_handed, Narrows, returned, directory_left, memory_left, cache_left, answer_left, RefusedLeaves}
 use Rattle.layout.proofs.Inverse.{inverse, length_encoded, settings_kept, sets_decoded}
 use Rattle.layout.proofs.DirectoryLaws.{left_is}
 
@@ -133,20 +137,15 @@ handed_over d m k a c r code d' m' k' a' s h t = go (eqb (refusal (decoded d) m 
           answer = rw (l, q) (rw test at t.2);
         }
 
--- an accepted answer, handed over
-pub accepted_over : (d m k a : List ℕ) (c : Call) (r : Answer) (d' m' k' a' : List ℕ)
-    → Answered (decoded d) m k c r m' k' → 18 ≤ length a → r.refusal ≡ 0 → d' ≡ left_put r.directory d → a' ≡ answer_put r a
-    → Left d m k a c 0 d' m' k' a'
-accepted_over d m k a c r d' m' k' a' s h e p q =
-    let t : eqb r.refusal 0 ≡ true = eq-eqb r.refusal 0 e in
-    handed_over d m k a c r 0 d' m' k' a' s h (sym e, rw t p, rw t q)
-
--- a refused one, of which nothing is
-pub refused_over : (d m k a : List ℕ) (c : Call) (r : Answer) (m' k' : List ℕ)
-    → Answered (decoded d) m k c r m' k' → 18 ≤ length a → (r.refusal ≡ 0 → ⊥) → Left d m k a c r.refusal d m' k' a
-refused_over d m k a c r m' k' s h e =
-    let t : eqb r.refusal 0 ≡ false = ne_eqb r.refusal 0 e in
-    handed_over d m k a c r r.refusal d m' k' a s h (refl, rw t, rw t)
+-- what the machine answered, handed over
+pub given_over : (d m k a : List ℕ) (c : Call) (r : Result Accepted Refusal) (m' k' : List ℕ)
+    → Answered (decoded d) m k c (told (decoded d) r) m' k' → 18 ≤ length a
+    → Left d m k a c (number_of r) (directory_handed r d) m' k' (answer_handed r a)
+unfolding directory_handed answer_handed
+given_over d m k a c (Ok x) m' k' s h = handed_over d m k a c (told (decoded d) (Ok x)) 0 _ m' k' _ s h (refl, refl, refl)
+given_over d m k a c (Err x) m' k' s h =
+    let t : eqb (refusal_number x) 0 ≡ false = ne_eqb (refusal_number x) 0 (number_not_0 x) in
+    handed_over d m k a c (told (decoded d) (Err x)) (refusal_number x) d m' k' a s h (refl, rw t, rw t)
 
 -- ---- a refused call
 

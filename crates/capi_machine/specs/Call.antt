@@ -1,13 +1,15 @@
 -- What a call through the C interface answers and leaves, from the directory's bytes d, the memory store m, the cache store k and the answer's
 -- space a, for the call c of the machine. "Machine calls test 1, 2, 3, 4 in that order"; before them, 9 if the answer's space is too small.
-use Rattle.std.specs.Prelude.{ℕ, ◌≤◌, ◌<◌, ◌≡◌, cond, List, ◌++◌, length, drop, leb, eqb}
+use Rattle.std.specs.Prelude.{ℕ, ◌≤◌, ◌<◌, ◌≡◌, Result, Ok, Err, cond, List, ◌++◌, length, drop, leb, eqb}
+use Rattle.order.specs.declared.Refusal.{Refusal}
 use Rattle.order.specs.Refusal.{accepted, no_room}
+use Rattle.coherence.specs.declared.Accepted.{Accepted}
 use Rattle.coherence.specs.declared.Call.{Call}
 use Rattle.coherence.specs.Refusal.{is_unit, is_block}
-use Rattle.coherence.specs.Calls.{refusal, answer, memory_after, cache_after}
+use Rattle.coherence.specs.Calls.{told, refusal, answer, memory_after, cache_after}
 use Rattle.crossing.specs.Capped.{capped}
-use Rattle.layout.specs.Directory.{decoded, encoded}
-use Rattle.answer_layout.specs.Answer.{answer_size, answer_numbers}
+use Rattle.layout.specs.Directory.{decoded, encoded, left_put}
+use Rattle.answer_layout.specs.Answer.{answer_size, answer_numbers, answer_put}
 
 -- a unit's or a block's number in a byte: 255 is no unit and no block, and is refused as those above it would be
 abbrev pub narrowed : ℕ → ℕ
@@ -35,6 +37,15 @@ cache_left d m k a c = cond (eqb (returned d m k a c) accepted) (cache_after (de
 unfoldable pub answer_left : List ℕ → List ℕ → List ℕ → List ℕ → Call → List ℕ
 answer_left d m k a c =
     cond (eqb (returned d m k a c) accepted) (answer_numbers (answer (decoded d) m k c) ++ drop answer_size a) a
+
+-- what a call's answer makes of the directory's bytes, and of the answer's space
+unfoldable pub directory_handed : Result Accepted Refusal → List ℕ → List ℕ
+directory_handed (Ok r) d = left_put r.directory d
+directory_handed (Err refusal) d = d
+
+unfoldable pub answer_handed : Result Accepted Refusal → List ℕ → List ℕ
+answer_handed (Ok r) a = answer_put (told r.directory (Ok r)) a
+answer_handed (Err refusal) a = a
 
 -- "A refused call leaves everything", the answer's space too; and a space that is too small is refused before all else
 pub record RefusedLeaves (d m k a : List ℕ) (c : Call) : Type 0 where

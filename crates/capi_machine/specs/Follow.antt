@@ -3,7 +3,7 @@
 use Rattle.std.specs.Prelude.{ℕ, ◌≤◌, ◌≡◌, cond, List, [], ◌∷◌, map, length, take, eqb}
 use Rattle.order.specs.Refusal.{accepted}
 use Rattle.coherence.specs.declared.Call.{Call}
-use Rattle.coherence.specs.declared.Answer.{Answer}
+use Rattle.coherence.specs.Answer.{Answer}
 use Rattle.coherence.specs.Calls.{answers, after_all}
 use Rattle.layout.specs.Directory.{decoded}
 use Rattle.answer_layout.specs.Answer.{answer_size, answer_numbers}

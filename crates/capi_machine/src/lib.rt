@@ -3,15 +3,35 @@
 #![tactic(auto)]
 
 ghost use Rattle.std.specs.Prelude.{◌≡◌};
+ghost use Rattle.order.specs.Refusal.{number_of};
 ghost use Rattle.coherence.specs.declared.Call.TheVariants.{Load, Store, Flush};
-ghost use Rattle.capi_machine.specs.Call.{narrowed, returned, directory_left, memory_left, cache_left, answer_left};
+ghost use Rattle.capi_machine.specs.Call.{narrowed, returned, directory_left, memory_left, cache_left, answer_left, directory_handed, answer_handed};
 ghost use Rattle.capi_machine.specs.Place.{peek_returned, store_left, offset_left};
 
 use answer_layout::put_answer;
-use crossing::byte;
+use coherence::Accepted;
+use crossing::capped;
 use layout::{decode, encode_left};
-use order::NO_ROOM;
+use order::Refusal;
+use peek::check_peek;
 use slots::owner;
+
+// What the machine answered: of an accepted call, the directory that it leaves and the answer's numbers are written. Not compiled into its callers, it costs
+// a call 7 to 11 ns (docs/PERFORMANCE.md).
+#[tactic(auto, unfolding(crate::specs::Call::directory_handed, crate::specs::Call::answer_handed))]
+#[inline(always)]
+fn hand_over(called: Result<Accepted, Refusal>, directory: &mut [u8], answer: &mut [u32]) -> u32
+    ensures { (result ≡ number_of called) × (directory.new ≡ directory_handed called directory.old) × (answer.new ≡ answer_handed called answer.old) }
+{
+    match called {
+        Ok(accepted) => {
+            encode_left(accepted.directory, directory);
+            put_answer(accepted, answer);
+            0
+        }
+        Err(refusal) => refusal.into(),
+    }
+}
 
 // Unit loads the word at address.
 #[unsafe(no_mangle)]
@@ -26,17 +46,11 @@ pub extern "C" fn trainer_load(
     ensures { (result ≡ returned directory.old memory.old cache.old answer.old (Load (narrowed unit) address)) × (directory.new ≡ directory_left directory.old memory.old cache.old answer.old (Load (narrowed unit) address)) × (memory.new ≡ memory_left directory.old memory.old cache.old answer.old (Load (narrowed unit) address)) × (cache.new ≡ cache_left directory.old memory.old cache.old answer.old (Load (narrowed unit) address)) × (answer.new ≡ answer_left directory.old memory.old cache.old answer.old (Load (narrowed unit) address)) }
 {
     if answer.len() < 18 {
-        return NO_ROOM as u32;
+        return Refusal::NoRoom.into();
     }
     let d = decode(directory);
-    let a = machine::load(d, memory, cache, byte(unit as u64), address);
-    if a.refusal == 0 {
-        let left = a.directory;
-        encode_left(left, directory);
-        put_answer(a, answer);
-        return 0;
-    }
-    a.refusal as u32
+    let called = machine::load(d, memory, cache, capped(unit.into()), address);
+    hand_over(called, directory, answer)
 }
 
 // Unit stores value at address.
@@ -53,17 +67,11 @@ pub extern "C" fn trainer_store(
     ensures { (result ≡ returned directory.old memory.old cache.old answer.old (Store (narrowed unit) address value)) × (directory.new ≡ directory_left directory.old memory.old cache.old answer.old (Store (narrowed unit) address value)) × (memory.new ≡ memory_left directory.old memory.old cache.old answer.old (Store (narrowed unit) address value)) × (cache.new ≡ cache_left directory.old memory.old cache.old answer.old (Store (narrowed unit) address value)) × (answer.new ≡ answer_left directory.old memory.old cache.old answer.old (Store (narrowed unit) address value)) }
 {
     if answer.len() < 18 {
-        return NO_ROOM as u32;
+        return Refusal::NoRoom.into();
     }
     let d = decode(directory);
-    let a = machine::store(d, memory, cache, byte(unit as u64), address, value);
-    if a.refusal == 0 {
-        let left = a.directory;
-        encode_left(left, directory);
-        put_answer(a, answer);
-        return 0;
-    }
-    a.refusal as u32
+    let called = machine::store(d, memory, cache, capped(unit.into()), address, value);
+    hand_over(called, directory, answer)
 }
 
 // Unit flushes block.
@@ -79,17 +87,11 @@ pub extern "C" fn trainer_flush(
     ensures { (result ≡ returned directory.old memory.old cache.now answer.old (Flush (narrowed unit) (narrowed block))) × (directory.new ≡ directory_left directory.old memory.old cache.now answer.old (Flush (narrowed unit) (narrowed block))) × (memory.new ≡ memory_left directory.old memory.old cache.now answer.old (Flush (narrowed unit) (narrowed block))) × (answer.new ≡ answer_left directory.old memory.old cache.now answer.old (Flush (narrowed unit) (narrowed block))) }
 {
     if answer.len() < 18 {
-        return NO_ROOM as u32;
+        return Refusal::NoRoom.into();
     }
     let d = decode(directory);
-    let a = machine::flush(d, memory, cache, byte(unit as u64), byte(block as u64));
-    if a.refusal == 0 {
-        let left = a.directory;
-        encode_left(left, directory);
-        put_answer(a, answer);
-        return 0;
-    }
-    a.refusal as u32
+    let called = machine::flush(d, memory, cache, capped(unit.into()), capped(block.into()));
+    hand_over(called, directory, answer)
 }
 
 // Which store has the newest bytes of block, and where.
@@ -105,20 +107,19 @@ pub extern "C" fn trainer_peek(
     ensures { (result ≡ peek_returned directory.now memory.now cache.now block) × (store.new ≡ store_left directory.now memory.now cache.now block store.old) × (offset.new ≡ offset_left directory.now memory.now cache.now block offset.old) }
 {
     let d = decode(directory);
-    let b = byte(block as u64);
-    let refusal = peek::peek_refusal(d, memory, cache, b);
-    if refusal != 0 {
-        return refusal as u32;
-    }
-    let slots = d.slots;
-    let unit = owner(slots, b);
-    if unit < 4 {
-        *store = 1;
-        *offset = 512 * (unit as u32) + 32 * ((b % 16) as u32);
-        0
-    } else {
-        *store = 0;
-        *offset = 32 * (b as u32);
-        0
+    let b: u8 = capped(block.into());
+    match check_peek(d, memory, cache, b) {
+        Ok(()) => {
+            let unit = owner(d.slots, b);
+            if unit < 4 {
+                *store = 1;
+                *offset = 512 * u32::from(unit) + 32 * u32::from(b % 16);
+            } else {
+                *store = 0;
+                *offset = 32 * u32::from(b);
+            }
+            0
+        }
+        Err(refusal) => refusal.into(),
     }
 }
