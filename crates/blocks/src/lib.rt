@@ -8,6 +8,8 @@ ghost use Rattle.blocks.specs.Moves.{copied, word_in, word_put, evicted_memory, 
 use coherence::Slot;
 use slots::place_of;
 
+// Inlined, since a call of its own costs `mix` 3 %.
+#[inline]
 #[tactic(auto, unfolding(crate::specs::Moves::copied, crate::specs::Moves::has_block))]
 pub fn copy_block(source: &[u8], from: usize, store: &mut [u8], to: usize)
     ensures { store.new ≡ copied source.now from store.old to }

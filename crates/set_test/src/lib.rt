@@ -13,7 +13,8 @@ fn weight_if(c: u8, b: u8, weight: u8) -> u8
     if c == b { weight } else { 0 }
 }
 
-// The set of the units that have block b, of those with blocks w to z.
+// The set of the units that have block b, of those with blocks w to z: the sum of the definition `set_of`, which a loop over four units and weights makes no
+// plainer.
 #[tactic(auto, unfolding(crate::specs::Sets::set_of))]
 fn set_of(w: u8, x: u8, y: u8, z: u8, b: u8) -> u8
     ensures { result ≡ set_of w x y z b }

@@ -63,7 +63,8 @@ fn conflict(x: Content, y: Content) -> u8
     u8::from((x.block == y.block) & (x.rank.saturating_add(y.rank) >= 3))
 }
 
-// How many rules the four units' slots s break, each by itself and each two together.
+// How many rules the four units' slots s break, each by itself and each two together: the sum of the definition `faults_of`, which loops over units and pairs
+// make no plainer.
 #[tactic(auto, unfolding(crate::specs::Soundness::faults_of))]
 fn faults(s: u8, w: Content, x: Content, y: Content, z: Content) -> u8
     ensures { result ≡ faults_of s w.block x.block y.block z.block w.rank x.rank y.rank z.rank }
