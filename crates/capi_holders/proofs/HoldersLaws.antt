@@ -15,8 +15,7 @@ use Rattle.coherence.proofs.Cases.{true_or_false}
 use Rattle.crossing.specs.Capped.{capped}
 use Rattle.crossing.proofs.CappedLaws.{caps}
 use Rattle.layout.specs.Directory.{decoded}
-use Rattle.holders.specs.declared.HoldersAnswer.{HoldersAnswer}
-use Rattle.holders.specs.Holders.{holders_refusal, holders_answer}
+use Rattle.holders.specs.Holders.{HoldersAnswer, holders_refusal, holders_answer}
 use Rattle.capi_holders.specs.Holders.{asked, holders_returned, set_left, count_left, Says}
 
 -- the number in a byte passes the test as the number itself does

@@ -3,8 +3,7 @@ use Rattle.std.specs.Prelude.{ℕ, ◌≡◌, cond, List, eqb}
 use Rattle.order.specs.Refusal.{accepted}
 use Rattle.crossing.specs.Capped.{capped}
 use Rattle.layout.specs.Directory.{decoded}
-use Rattle.holders.specs.declared.HoldersAnswer.{HoldersAnswer}
-use Rattle.holders.specs.Holders.{holders_answer}
+use Rattle.holders.specs.Holders.{HoldersAnswer, holders_answer}
 
 -- the number of the block in a byte: 255 is no block, and is refused as those above it would be
 unfoldable pub asked : List ℕ → ℕ → HoldersAnswer

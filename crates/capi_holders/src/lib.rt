@@ -4,7 +4,7 @@
 ghost use Rattle.std.specs.Prelude.{◌≡◌};
 ghost use Rattle.capi_holders.specs.Holders.{holders_returned, set_left, count_left};
 
-use crossing::byte;
+use crossing::capped;
 use layout::decode;
 
 // The set of the units that hold block, and how many they are.
@@ -17,12 +17,12 @@ pub extern "C" fn trainer_holders(
 ) -> u32
     ensures { (result ≡ holders_returned directory.now block) × (set.new ≡ set_left directory.now block set.old) × (count.new ≡ count_left directory.now block count.old) }
 {
-    let d = decode(directory);
-    let answer = holders::holders(d, byte(block as u64));
-    if answer.refusal != 0 {
-        return answer.refusal as u32;
+    match holders::holders(decode(directory), capped(block.into())) {
+        Ok(held) => {
+            *set = held.set.into();
+            *count = held.count;
+            0
+        }
+        Err(refusal) => refusal.into(),
     }
-    *set = answer.set as u32;
-    *count = answer.count;
-    0
 }
