@@ -19,7 +19,7 @@ use Rattle.batch_rules.specs.Outcome.{Outcome}
 use Rattle.batch_rules.specs.Batch.{Batch, batch, calls_of, before, made, ran, none, opened, batch_result}
 use Rattle.batch_rules.specs.Numbers.{is_kind, call_from, kind_at, access_at, count_of, known, unknown, refused_by, opened_numbers, ran_numbers, numbers_result, access_numbers, numbers_of, Fit, AllFit, NumbersSay}
 use Rattle.batch_rules.proofs.RanLaws.{ran_none, ran_still}
-use Rattle.batch_rules.proofs.Sentences.{and-false}
+use Rattle.std.proofs.Math.Bool.{and-false}
 use Rattle.batch_rules.proofs.SplitLaws.{ran_index, ran_orders}
 
 pub known_few : (ns : List ℕ) (i t : ℕ) → length (known ns i t) ≤ t

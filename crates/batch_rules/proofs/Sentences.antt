@@ -9,6 +9,7 @@ use lib.Dec.{eqb, leb}
 use lib.ListN.{length, take, drop}
 use lib.Seq.{sets-eq}
 use borrow.Author.Tests.{le-leb, lt-leb, leb-true}
+use Rattle.std.proofs.Math.Bool.{and-false}
 use Rattle.coherence.specs.declared.Directory.{Directory}
 use Rattle.coherence.specs.declared.Call.{Call}
 use Rattle.coherence.specs.declared.Call.TheVariants.{Load, Store, Flush}
@@ -22,10 +23,6 @@ use Rattle.batch_rules.specs.Batch.{batch, calls_of, before, number, made, ran, 
 use Rattle.batch_rules.specs.Sentences.{Singly, Stopped, SentencesHold, EmptyAccepted, ZeroValues}
 use Rattle.batch_rules.proofs.Before.{Before, before_first, calls_counted, values_counted}
 use Rattle.batch_rules.proofs.RanLaws.{ran_none}
-
-pub and-false : (t : Bool) → (t && false) ≡ false
-and-false true = refl
-and-false false = refl
 
 either : (t : Bool) → ◌≡◌ {A = ℕ} (cond t 0 0) 0
 either true = refl

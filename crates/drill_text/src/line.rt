@@ -1,4 +1,5 @@
-// The lines of a drill. Each function puts a part of the text at the place `at` of `out`, if it has room, and answers the place after it.
+// The lines of a drill. Each function puts a part of the text at the place `at` of `out`, if it has room, and answers the place after it. The two stay
+// parameters: each method of a struct that lends `out` would have to promise besides that it keeps the reference (`self.new.out.ghost_name`).
 ghost use Rattle.std.specs.Prelude.{◌+◌, ◌≤◌, ◌<◌, ◌^◌, ◌++◌, length};
 ghost use Rattle.order.specs.Refusal.{refusal_number};
 ghost use Rattle.drill_format.specs.Line.{field, access_part, orders_part, total_line, refused_line};
