@@ -4,18 +4,17 @@ use std::io;
 
 // A word, and a set of parity bits to check it with: its parity, the wrong bytes, how many.
 pub(crate) fn parity(to: &impl Print, given: Row) -> io::Result<()> {
-    let v = given.values;
-    let n = given.small;
-    let data = v[0];
+    let data = given.values[0];
+    let set = given.small()[1];
     let mut wrong = 0u32;
     let mut count = 0u32;
-    let refusal = capi_bus::trainer_check(data, n[1], &mut wrong, &mut count);
+    let refusal = capi_bus::trainer_check(data, set, &mut wrong, &mut count);
     show_all(to, &[refusal, capi_bus::trainer_parity(data), wrong, count])
 }
 
 // RA and BCT: the words, the set of positions.
 pub(crate) fn lanes(to: &impl Print, given: Row) -> io::Result<()> {
-    let n = given.small;
+    let n = given.small();
     let mut words = 0u32;
     let mut positions = 0u32;
     let refusal = capi_bus::trainer_lanes(n[0], n[1], &mut words, &mut positions);
@@ -24,7 +23,7 @@ pub(crate) fn lanes(to: &impl Print, given: Row) -> io::Result<()> {
 
 // The cycles, the cycle, and locked or not: BS, BUR, ET, ET at the request.
 pub(crate) fn transfer(to: &impl Print, given: Row) -> io::Result<()> {
-    let n = given.small;
+    let n = given.small();
     let mut bs = 0u32;
     let mut bur = 0u32;
     let mut et = 0u32;
@@ -43,7 +42,7 @@ pub(crate) fn transfer(to: &impl Print, given: Row) -> io::Result<()> {
 
 // A code: its class, the carried number, whether a bus error is reported.
 pub(crate) fn answer(to: &impl Print, given: Row) -> io::Result<()> {
-    let n = given.small;
+    let n = given.small();
     let mut class = 0u32;
     let mut carried = 0u32;
     let mut error = 0u32;
@@ -53,7 +52,7 @@ pub(crate) fn answer(to: &impl Print, given: Row) -> io::Result<()> {
 
 // A class and the number that it carries: the code.
 pub(crate) fn class(to: &impl Print, given: Row) -> io::Result<()> {
-    let n = given.small;
+    let n = given.small();
     let mut code = 0u32;
     let refusal = capi_bus::trainer_code(n[0], n[1], &mut code);
     show_all(to, &[refusal, code])
@@ -75,7 +74,7 @@ fn arbitrate(to: &impl Print, state: &mut [u32], high: u32, low: u32, lck: u32) 
 // Last high, last low, owner (8: none), RQH, RQL, LCK: the grant (0 nobody, 1 high, 2 low), the unit, and the state after it. With no number, the
 // state of a fresh handler.
 pub(crate) fn handler(to: &impl Print, given: Row) -> io::Result<()> {
-    let n = given.small;
+    let n = given.small();
     let mut state = [n[0], n[1], n[2]];
     if given.count == 0 {
         fresh(to, &mut state)

@@ -8,7 +8,7 @@ mod rows;
 mod tapes;
 
 use input::read_input;
-use rows::{Row, parse, word};
+use rows::{Row, put};
 use std::io;
 
 // The answer to a row, which the first letter of its name chooses.
@@ -29,36 +29,30 @@ fn answer(to: &impl Print, letter: u8, given: Row) -> io::Result<()> {
     }
 }
 
-// The line from `start` to `end`, if it ends there. Gives back the start of the next.
-fn line(to: &impl Print, text: &[u8], start: usize, end: usize) -> io::Result<usize> {
-    if end >= text.len() {
-        return Ok(start);
-    }
-    if text[end] != 10 {
-        return Ok(start);
-    }
-    if start < end {
-        let letter = text[start];
-        word(to, &text[start..end])?;
-        if letter != 34 {
-            word(to, b":")?;
-            answer(to, letter, parse(&text[start..end], letter))?;
+// A line, and where it is a row, its answer.
+fn line(to: &impl Print, text: &[u8]) -> io::Result<()> {
+    put(to, text)?;
+    match text.first() {
+        None | Some(b'"') => {}
+        Some(&letter) => {
+            print!(to; ":")?;
+            answer(to, letter, Row::parse(text, letter))?;
         }
     }
-    word(to, b"\n")?;
-    Ok(end + 1)
+    println!(to; "")
 }
 
-fn lines(to: &impl Print, text: &[u8]) -> io::Result<()> {
-    let mut start = 0;
-    for end in 0..text.len() {
-        start = line(to, text, start, end)?;
-    }
-    Ok(())
-}
-
+// What was read before a read that failed is run all the same. A line that does not end is none.
 fn main(rt: HostRuntime) -> io::Result<()> {
     let mut text = [0u8; 131072];
-    let count = read_input(&mut rt.stdin(), &mut text).size;
-    lines(&rt, &text[..count])
+    let size = match read_input(&mut rt.stdin(), &mut text) {
+        Ok(size) => size,
+        Err(error) => error.size,
+    };
+    for ended in text[..size].split_inclusive(|&b| b == b'\n') {
+        if let Some(text) = ended.strip_suffix(b"\n") {
+            line(&rt, text)?;
+        }
+    }
+    Ok(())
 }
