@@ -1,5 +1,5 @@
 -- The rule for a number's groups: it counts the groups of the number's spelling, and no fewer hold the number.
-use Prim.Native.Nat.{ℕ, zero, suc, ◌+◌, ◌*◌, ◌-◌, ◌/◌, ◌^◌, ◌≤◌, ◌<◌, max}
+use Prim.Native.Nat.{ℕ, zero, suc, ◌+◌, ◌*◌, ◌-◌, ◌/◌, ◌^◌, ◌≤◌, ◌<◌}
 use native.Mathlib.Nat.{mul-suc, add-sub_cancel_left}
 use native.Mathlib.Omega.{arith}
 use mathlib.Core.Path.{◌≡◌, refl, sym, ap, ◌∙◌}
@@ -11,7 +11,6 @@ use lib.Dec.{ltb, lit<}
 use lib.ListN.{length, length-append}
 use lib.Pow.{pow-add, pow_mono}
 use borrow.Author.Tests.{ltb-true, ltb-false, le-leb, lt-leb, eq-eqb, ne_eqb}
-use Rattle.std.specs.Int.{div_ceil}
 use Rattle.numeric.proofs.Cases.{le_or_lt}
 use Rattle.number.specs.Number.{groups, spell_groups, spell, spell_all, filled}
 use Rattle.number_writer.specs.GroupCount.{least_from, significant_bits, group_count, size_of, meaning, Holds, CountsGroups, SizesAll}
@@ -67,14 +66,14 @@ module _ (n : ℕ) where
       let l : j < significant_bits n = power_order j (significant_bits n) n lo (bits_hold h) in
       omega (arith, b, bits_fewest (suc j) hi)
 
-  -- the rule by the leading zeros
-  pub count_leading : n < 2 ^ 64 → max (div_ceil (64 - count_leading_zeros 64 n) 7) 1 ≡ group_count n
-  unfolding group_count count_leading_zeros
-  count_leading h =
-      ⊎_elim
-      (λ (p : 1 ≤ n). let b = bits_leading p h in let l = power_order 0 (significant_bits n) n p (bits_hold h) in rw (ne_eqb n 0 (λ z. omega arith)) (omega (arith, b)))
-      (λ (p : n < 1). let z : n ≡ 0 = omega arith in rw z)
-      (le_or_lt 1 n)
+  -- the rule by the leading zeros, above zero and at it
+  pub count_leading : 0 < n → n < 2 ^ 64 → (64 - count_leading_zeros 64 n + 6) / 7 ≡ group_count n
+  unfolding group_count
+  count_leading p h = let b = bits_leading p h in rw (ne_eqb n 0 (λ z. omega arith)) (omega (arith, b))
+
+pub count_zero : (n : ℕ) → n ≡ 0 → 1 ≡ group_count n
+unfolding group_count
+count_zero n z = rw (eq-eqb n 0 z)
 
 -- ---- the groups of a spelling
 
