@@ -16,8 +16,8 @@ use order::{Command, Refusal};
 use orders::{accepted, eviction_orders, fetch_orders, no_orders, one_order};
 use refusal::{check_call, is_address, is_sized};
 use slots::{
-    cache_place, claimed, fetched, has_modified, holds_block, is_through, owner,
-    place_of, set_slot, slot_at,
+    cache_place, claimed, fetched, has_modified, holds_block, is_through, owner, place_of,
+    set_slot, slot_at,
 };
 use write_through::store_through;
 

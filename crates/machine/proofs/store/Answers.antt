@@ -1,6 +1,8 @@
 use Rattle.machine.proofs.SetLaws.{whole, settled, unchanged, through_kept, shared_sets, missed_sets}
 use native.Mathlib.Omega.{arith}
-use mathlib.Core.Path.{refl, sym, ◌∙◌}
+use mathlib.Core.Path.{◌≡◌, refl, sym, ◌∙◌}
+use lib.ListN.{length}
+use Rattle.coherence.proofs.SlotLaws.{size}
 use Rattle.std.proofs.lemmas.Result.{err_from_is_err_and}
 use Rattle.coherence.specs.Calls.{unit_of, is_target, refusal, act, loaded}
 use Rattle.coherence.specs.declared.Call.TheVariants.{Store}
@@ -58,8 +60,10 @@ returns-then-holds_block c =
     let s = (rw c.place_of-n.ensures at c.slot_at-slot.ensures) ∙ of_slot a.directory _ in
     let g = sym (rw s at c.has_modified.ensures) ∙ c.if-has_modified.false in
     let h = sym (rw s at c.holds_block.ensures) ∙ c.if-holds_block.true in
+    let l : size a.directory ≡ 64 = whole a.directory (search (rules, length_mapped)) in
+    let held : length a.directory.holders ≡ 64 = search rules in
     let x = store_shared_lem _ _ _ _ _ _ q t g h in
-    let y = (rw s at c.claimed_sets-sets.ensures) ∙ shared_sets _ _ _ (whole a.directory (search (rules, length_mapped))) (search rules) _ _ q _ z x t g h in
+    let y = (rw s at c.claimed_sets-sets.ensures) ∙ shared_sets _ _ _ l held _ _ q _ z x t g h in
     comes_to _ _ _ (Store _ _ _) z x c.accepted-then-holds_block.ensures refl c.one_order-orders.ensures (settled a.directory (of_claimed a.directory _ _ c.claimed-left.ensures) y) refl
     (rw c.cache_place-at.ensures at c.put_word-then-holds_block.ensures)
 
@@ -76,7 +80,9 @@ returns c =
     let h = sym (rw s at c.holds_block.ensures) ∙ c.if-holds_block.false in
     let v = c.owner-holder.ensures ∙ of_owner a.directory _ in
     let f = rw (s, n, v) at c.fetch_bytes.ensures in
-    let x = store_missed_lem _ _ _ _ _ _ q (whole a.directory (search (rules, length_mapped))) t g h in
-    let y = (rw s at c.claimed_sets-sets.ensures) ∙ missed_sets _ _ _ (whole a.directory (search (rules, length_mapped))) (search rules) _ _ q _ z x t h in
+    let l : size a.directory ≡ 64 = whole a.directory (search (rules, length_mapped)) in
+    let held : length a.directory.holders ≡ 64 = search rules in
+    let x = store_missed_lem _ _ _ _ _ _ q l t g h in
+    let y = (rw s at c.claimed_sets-sets.ensures) ∙ missed_sets _ _ _ l held _ _ q _ z x t h in
     comes_to _ _ _ (Store _ _ _) z x c.accepted-2.ensures refl (rw (s, v) at c.fetch_orders-orders.ensures)
     (settled a.directory (of_claimed a.directory _ _ c.claimed-left.ensures) y) f.0 (rw (f.1, c.cache_place-at.ensures) at c.put_word-2.ensures)
