@@ -12,7 +12,7 @@ use batch::run_array;
 use batch_outcome::{goes_on, open, refused_by};
 use batch_rules::{Access, Outcome};
 use coherence::{Call, Directory};
-use crossing::byte;
+use crossing::capped;
 use order::Refusal;
 
 // The access of four numbers, if its kind is known.
@@ -20,7 +20,7 @@ use order::Refusal;
 fn access_from(kind: u32, unit: u32, target: u32, value: u32) -> Option<Access>
     ensures { result ≡ access_from kind unit target value }
 {
-    let unit = byte(u64::from(unit));
+    let unit = capped(unit.into());
     let call = match kind {
         0 => Call::Load {
             unit,
@@ -33,7 +33,7 @@ fn access_from(kind: u32, unit: u32, target: u32, value: u32) -> Option<Access>
         },
         2 => Call::Flush {
             unit,
-            block: byte(u64::from(target)),
+            block: capped(target.into()),
         },
         _ => return None,
     };
