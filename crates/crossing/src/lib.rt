@@ -17,6 +17,7 @@ pub trait Narrow: TryFrom<u64, Error: Drop> + Drop {
 
     const MOST: Self;
 
+    // A number becomes what `try_from` gives of it, or else the most.
     ghost takes: { (n : ℕ) (r : Result Self Self.Error) → Self.try_from_gives n r → number (result_unwrap_or r MOST) ≡ capped (number MOST) n };
 }
 
@@ -57,14 +58,9 @@ pub fn capped<T: Narrow>(n: u64) -> T
     T::try_from(n).unwrap_or(T::MOST)
 }
 
+// The same at a byte, for `batch_numbers`.
 pub fn byte(n: u64) -> u8
     ensures { result ≡ capped 255 n }
-{
-    capped(n)
-}
-
-pub fn word(n: u64) -> u32
-    ensures { result ≡ capped 4294967295 n }
 {
     capped(n)
 }
