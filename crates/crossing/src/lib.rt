@@ -57,10 +57,3 @@ pub fn capped<T: Narrow>(n: u64) -> T
 {
     T::try_from(n).unwrap_or(T::MOST)
 }
-
-// The same at a byte, for `batch_numbers`.
-pub fn byte(n: u64) -> u8
-    ensures { result ≡ capped 255 n }
-{
-    capped(n)
-}
