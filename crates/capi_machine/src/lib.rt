@@ -18,6 +18,7 @@ use slots::owner;
 
 // What the machine answered: of an accepted call, the directory that it leaves and the answer's numbers are written. Not compiled into its callers, it costs
 // a call 7 to 11 ns (docs/PERFORMANCE.md).
+// The calls themselves stay apart: C lends `trainer_flush` its cache store to be read only, the others theirs to be written.
 #[tactic(auto, unfolding(crate::specs::Call::directory_handed, crate::specs::Call::answer_handed))]
 #[inline(always)]
 fn hand_over(called: Result<Accepted, Refusal>, directory: &mut [u8], answer: &mut [u32]) -> u32
