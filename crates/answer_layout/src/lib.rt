@@ -21,7 +21,9 @@ fn order_numbers(order: Order) -> [u32; 4]
 }
 
 // An answer's numbers, into the first places of the lent space. It stays if it is too small, or if the answer counts more orders than it has places.
+// Not compiled into its callers, it costs a flush through C a fifth more, since the answer with its directory is copied for it.
 #[tactic(auto, unfolding(crate::specs::Answer::answer_put))]
+#[inline(always)]
 pub fn put_answer(a: Accepted, out: &mut [u32])
     ensures { out.new ≡ answer_put (told a.directory (Ok a)) out.old }
 {
