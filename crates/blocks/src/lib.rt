@@ -41,7 +41,7 @@ pub fn put_word(store: &mut [u8], at: u32, word: u32)
     }
 }
 
-// The same where `held`, else nothing.
+// The same where `held`, else nothing. Public, and total like `put_word`: its clause stands.
 pub fn put_word_if(held: bool, store: &mut [u8], at: u32, word: u32)
     ensures { store.new ≡ cond held (word_put store.old at word) store.old }
 {

@@ -1,5 +1,6 @@
 // The sets of holders that a directory keeps, unit 0 having weight 1, unit 3 weight 8: one set read, and the sets that an access leaves, from those that it
-// found. Past the last block one reads as empty, and setting one changes nothing.
+// found. Past the last block one reads as empty, and setting one changes nothing. Unit, block and the unit's slot stay parameters, here and in `slots`, `blocks`
+// and `orders`: no function takes all that an access has, and each clause names its own.
 #![tactic(auto)]
 
 ghost use Rattle.std.specs.Prelude.{◌≡◌, ◌-◌, slice_index, slice_set};

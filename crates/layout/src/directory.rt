@@ -15,7 +15,8 @@ fn pair(state: u8, block: u8) -> u16
     u16::from_le_bytes([state, block])
 }
 
-// The 64 pairs of bytes, each as one number. The compiler then reads and compares eight of them at a time.
+// The 64 pairs of bytes, each as one number. The compiler then reads and compares eight of them at a time. By place: over `as_chunks` each pair would be
+// taken apart as an array first, and the sentence `Paired` speaks of places.
 fn pairs(bytes: &[u8]) -> [u16; 64]
     requires { length bytes.now ≡ 194 }
     ensures { (length result ≡ 64) × Paired bytes.now 64 result }
@@ -75,7 +76,8 @@ fn sets_in(bytes: &[u8]) -> [u8; 64]
     holders
 }
 
-// The directory that the bytes spell. What spells none becomes one that breaks the rules.
+// The directory that the bytes spell. What spells none becomes one that breaks the rules: the clause `decoded` has a directory for any bytes, so that refusal
+// 2 comes in its place among the machine's tests.
 pub fn decode(bytes: &[u8]) -> Directory
     ensures { result ≡ decoded bytes.now }
 {

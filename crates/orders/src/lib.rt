@@ -16,6 +16,7 @@ fn no_order() -> Order
     given(0, Command::Read, 0, false)
 }
 
+// An order's unit, command and block stay parameters: an `Order` would bring `retried`, which these functions choose.
 #[tactic(auto, unfolding(crate::specs::Orders::order))]
 fn given(unit: u8, command: Command, block: u8, retried: bool) -> Order
     ensures { result ≡ order unit command block retried }
@@ -114,7 +115,8 @@ pub fn fetch_orders(
     }
 }
 
-// The answer of an accepted call, which leaves these slots and these sets of holders, and keeps the settings.
+// The answer of an accepted call, which leaves these slots and these sets of holders, and keeps the settings. The three stay apart, since a copy of the slots alone has
+// 128 bytes (see `slots`).
 #[tactic(auto, unfolding(crate::specs::Orders::accepted_answer))]
 pub fn accepted(
     value: u32,

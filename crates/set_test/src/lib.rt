@@ -1,5 +1,5 @@
 // The test of the sets of holders, by the block of each slot. It goes over numbers of 8 bits, without early exit, so that the compiler takes sixteen blocks at
-// a time (docs/PERFORMANCE.md).
+// a time (docs/PERFORMANCE.md): so the blocks lie in an array of their own, without the ranks.
 #![tactic(auto)]
 
 ghost use Rattle.std.specs.Prelude.{◌≡◌, ◌≤◌, ◌<◌};

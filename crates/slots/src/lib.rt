@@ -11,7 +11,8 @@ ghost use Rattle.slots.specs.Directory.{block_or, of_slots, released, expelled_a
 
 use coherence::{Board, Directory, Entry, Kind, Settings, Slot};
 
-// A block that no slot may have.
+// A block that no slot may have, and no Option: the definitions have it so, `no_block` where the directory's test meets an invalid slot, and `block_spelled`
+// where bytes spell none.
 pub const NO_BLOCK: u8 = 255;
 
 #[tactic(auto, unfolding(coherence::specs::Slots::slot_at), using(crate::proofs::Sets::slot_far))]
@@ -76,7 +77,7 @@ pub fn block_or(slot: Slot, other: u8) -> u8
     }
 }
 
-// The slot's state as a number: 0 invalid, 1 shared, 2 modified.
+// The slot's state as a number: 0 invalid, 1 shared, 2 modified: the byte of document 01's directory, and the definition `state_number`.
 #[tactic(auto, unfolding(coherence::specs::Slots::state_number))]
 pub fn rank(slot: Slot) -> u8
     ensures { (result ≡ state_number slot) × (result ≤ 2) }
@@ -124,7 +125,8 @@ pub fn is_through(settings: Settings, unit: u8) -> bool
     unit < 4 && matches!(settings.boards[usize::from(unit)].kind, Kind::WriteThrough)
 }
 
-// The unit that has the block EM, or 4. It is no Option: the definitions that take it (`owner_of`, `yielded_directory` and those above them) have the 4.
+// The unit that has the block EM, or 4. It is no Option: those that take it have no `requires`, so each would still test for a unit above 3, as
+// `yielded_directory` and `ask_orders` do.
 #[tactic(auto, unfolding(coherence::specs::Slots::place, coherence::specs::Slots::slot_at))]
 pub fn owner(slots: [Entry; 64], block: u8) -> u8
     ensures { result ≡ owner_of (of_slots slots) block }

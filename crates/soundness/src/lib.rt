@@ -1,5 +1,5 @@
 // The test of the directory's rules: of the slots, of the boards' kinds and of the sets of holders. Each goes over numbers of 8 bits, without early exit, so
-// that the compiler takes sixteen slots at a time (docs/PERFORMANCE.md).
+// that the compiler takes sixteen slots at a time (docs/PERFORMANCE.md): so blocks and ranks lie in two arrays.
 #![tactic(auto)]
 
 ghost use Rattle.std.specs.Prelude.{◌≡◌, ◌≤◌, ◌<◌, ℕ, get_or};
