@@ -1,5 +1,5 @@
-// An answer's class as two numbers: which class, and the number that it carries, 0 where it carries none. The numbers of the classes are the C
-// interface's: `include/trainer.h` lists them.
+// An answer's class as two numbers: which class, and the number that it carries, 0 where it carries none. The numbers of the classes are those
+// of the C functions `trainer_class` and `trainer_code`: `include/trainer.h` lists them.
 ghost use Rattle.std.specs.Prelude.{◌≡◌};
 ghost use Rattle.capi_bus.specs.Class.{class_number, carried_of, class_from};
 

@@ -1,4 +1,5 @@
-// The handler's state as three numbers: last high unit, last low unit, and the lock's owner, 8 for none.
+// The handler's state as three numbers: last high unit, last low unit, and the lock's owner, 8 for none. The numbers are the C interface's: `trainer_arbitrate`
+// in `include/trainer.h` lists them.
 ghost use Rattle.std.specs.Prelude.{◌≡◌, ◌++◌, ◌≤◌, length, drop};
 ghost use Rattle.capi_handler.specs.State.{state_size, lock_number, lock_from, state_numbers, state_from, class_granted, unit_granted};
 
@@ -44,7 +45,7 @@ pub(crate) fn put_state(state: State, out: &mut [u32])
     ]);
 }
 
-// 0 nobody, 1 by RQH, 2 by RQL.
+// 0 nobody, 1 by RQH, 2 by RQL, as `trainer_arbitrate` gives it to C.
 #[tactic(auto, unfolding(crate::specs::State::class_granted, crate::specs::State::class_told))]
 pub(crate) fn class_granted(grant: Option<Grant>) -> u32
     ensures { result ≡ class_granted grant }

@@ -14,7 +14,7 @@ use crossing::capped;
 use layout::{decode, encode_left};
 use order::Refusal;
 use peek::check_peek;
-use slots::owner;
+use slots::{cache_place, owner};
 
 // What the machine answered: of an accepted call, the directory that it leaves and the answer's numbers are written. Not compiled into its callers, it costs
 // a call 7 to 11 ns (docs/PERFORMANCE.md).
@@ -112,12 +112,13 @@ pub extern "C" fn trainer_peek(
     match check_peek(d, memory, cache, b) {
         Ok(()) => {
             let unit = owner(d.slots, b);
+            let address = 32 * u32::from(b);
             if unit < 4 {
                 *store = 1;
-                *offset = 512 * u32::from(unit) + 32 * u32::from(b % 16);
+                *offset = cache_place(unit, address);
             } else {
                 *store = 0;
-                *offset = 32 * u32::from(b);
+                *offset = address;
             }
             0
         }

@@ -5,7 +5,7 @@ ghost use Rattle.capi_message.specs.Layout.{receiver_size, receiver_numbers, rec
 use crate::operation::{NO_SENDER, source_from};
 use message_rules::{Received, Receiver, Source};
 
-// A receiver that is refused.
+// A receiver that is refused, as `no_receiver` has it: 10 comes in its place among the tests.
 const NO_RECEIVER: Receiver = Some(Received {
     source: Source {
         sender: NO_SENDER,

@@ -9,7 +9,7 @@ use crossing::capped;
 use message::Operation;
 use message_rules::{Sequence, Source};
 
-// A sender that no operation may have.
+// A sender that no operation may have. No Option: `operation_sender` has it, so that `trainer_receive` refuses in the order of its tests.
 pub(crate) const NO_SENDER: u8 = 255;
 
 // A sender in a byte and an AID in two. What they do not hold becomes the most that they hold, which is no sender and no AID either.
@@ -50,5 +50,5 @@ pub(crate) fn operation_from(sequence: u32, sender: u32, aid: u32, bytes: &[u8])
 pub(crate) fn number_at(message: &[u8], source: Source, k: usize) -> u32
     ensures { result ≡ number_found (sequence_found (operation_at message.now source.sender source.aid k)) }
 {
-    message::sequence_at(message, source, k).map_or(0, |sequence| sequence as u32)
+    message::sequence_at(message, source, k).map_or(0, u32::from)
 }

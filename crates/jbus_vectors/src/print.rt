@@ -24,6 +24,6 @@ pub(crate) fn reading(to: &impl Print, cycle: AddressCycle) -> io::Result<()> {
     print!(to; "read {upper:016x} {lower:016x}: ")?;
     match jbus::read_interrupt(cycle) {
         Ok(i) => println!(to; "target {} agent {} {}", i.target, i.agent, Name(i.device)),
-        Err(refusal) => println!(to; "refusal {}", refusal as u32),
+        Err(refusal) => println!(to; "refusal {}", u32::from(refusal)),
     }
 }

@@ -38,7 +38,7 @@ fn writing(to: &impl Print, target: u32, agent: u32) -> io::Result<()> {
             println!(to; "{upper:016x} {lower:016x}")?;
             reading(to, cycle)
         }
-        Err(refusal) => println!(to; "refusal {}", refusal as u32),
+        Err(refusal) => println!(to; "refusal {}", u32::from(refusal)),
     }
 }
 

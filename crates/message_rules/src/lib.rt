@@ -4,7 +4,7 @@
 ghost use Rattle.std.specs.Prelude.{◌≡◌};
 ghost use Rattle.std.specs.Option.{ok_or};
 ghost use Rattle.order.specs.declared.Refusal.TheVariants.{FieldRange};
-ghost use Rattle.message_rules.specs.Operation.{sequence_numbered};
+ghost use Rattle.message_rules.specs.Operation.{sequence_number, sequence_numbered};
 
 use order::Refusal;
 
@@ -15,6 +15,15 @@ pub enum Sequence {
     First = 1,
     Middle = 2,
     Last = 3,
+}
+
+impl From<Sequence> for u32 {
+    ghost from_gives = { λ sequence n. n ≡ sequence_number sequence };
+
+    #[tactic(auto, unfolding(crate::specs::Operation::sequence_number))]
+    fn from(sequence: Sequence) -> u32 {
+        sequence as u32
+    }
 }
 
 impl TryFrom<u32> for Sequence {

@@ -66,7 +66,7 @@ fn past(to: &impl Print, whole: &[u8], source: Source, k: usize) -> io::Result<(
 fn send(to: &impl Print, whole: &[u8], source: Source) -> io::Result<()> {
     let (refusal, operations) = match message::divide(whole, source) {
         Ok(operations) => (0, operations),
-        Err(refusal) => (refusal as u32, 0),
+        Err(refusal) => (u32::from(refusal), 0),
     };
     let message = Bytes(Received {
         source,

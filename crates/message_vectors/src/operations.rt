@@ -106,7 +106,7 @@ pub(crate) fn operation(
     print!(to; "{} {given}: refusal ", Name(operation.sequence))?;
     let (refusal, next, completion) = match message::receive(receiver, store, operation) {
         Ok(accepted) => (0, accepted.receiver, accepted.completion),
-        Err(refusal) => (refusal as u32, receiver, None),
+        Err(refusal) => (u32::from(refusal), receiver, None),
     };
     print!(to; "{refusal} {} {}", State(next), Completion(completion))?;
     Ok(next)

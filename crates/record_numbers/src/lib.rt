@@ -87,6 +87,7 @@ pub fn record_from(numbers: &[u64]) -> Result<Record, Refusal>
     if numbers.len() != 7 {
         return Err(Refusal::FieldRange);
     }
+    // By the kind's number, as the papers' table has it: an enum between would be matched again at once.
     match *numbers {
         [0, unit, address, ..] => Ok(Record::Load(capped(unit), capped(address))),
         [1, unit, address, value, ..] => store_from(unit, address, value),

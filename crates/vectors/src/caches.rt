@@ -77,6 +77,7 @@ fn changed(to: &impl Print, space: Space, bytes: &[u8]) -> io::Result<()> {
     Ok(())
 }
 
+// By the crates' own functions and not by the C ones, as `access` too: the rows try the machine itself.
 fn call_of(n: [u32; 48]) -> Call {
     let unit = crossing::capped(n[4].into());
     match n[3] {
@@ -110,7 +111,7 @@ fn access(
             answer_layout::put_answer(given, answer);
             0
         }
-        Err(refusal) => refusal as u32,
+        Err(refusal) => u32::from(refusal),
     }
 }
 

@@ -25,7 +25,8 @@ fn answer(to: &impl Print, letter: u8, given: Row) -> io::Result<()> {
         b'n' => caches::newest(to, given),
         b's' => caches::start(to, given),
         b'u' => caches::units(to, given),
-        _ => tapes::reading(to, letter, given),
+        b'r' => tapes::read_row(to, given),
+        _ => tapes::drill_row(to, given),
     }
 }
 
@@ -45,10 +46,7 @@ fn line(to: &impl Print, text: &[u8]) -> io::Result<()> {
 // What was read before a read that failed is run all the same. A line that does not end is none.
 fn main(rt: HostRuntime) -> io::Result<()> {
     let mut text = [0u8; 131072];
-    let size = match read_input(&mut rt.stdin(), &mut text) {
-        Ok(size) => size,
-        Err(error) => error.size,
-    };
+    let size = read_input(&mut rt.stdin(), &mut text).unwrap_or_else(|error| error.size);
     for ended in text[..size].split_inclusive(|&b| b == b'\n') {
         if let Some(text) = ended.strip_suffix(b"\n") {
             line(&rt, text)?;

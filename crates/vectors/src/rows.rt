@@ -41,7 +41,7 @@ impl Row {
     }
 }
 
-// A digit's value. The digits above 9 are capitals.
+// A digit's value. By hand: numbers wrap at 64 bits, and the digits above 9 are capitals alone.
 fn digit(letter: u8, base: u64) -> Option<u64> {
     match letter {
         b'0'..=b'9' => Some(u64::from(letter - b'0')),

@@ -23,20 +23,25 @@ fn drill(to: &impl Print, tape: &[u8], text: &mut [u8]) -> io::Result<()> {
     Ok(())
 }
 
-// A place and a tape to read there, or the room for a text and a tape to drill.
-pub(crate) fn reading(to: &impl Print, letter: u8, given: Row) -> io::Result<()> {
+// A place and a tape to read there.
+pub(crate) fn read_row(to: &impl Print, given: Row) -> io::Result<()> {
     let bytes = given.bytes();
-    let count = given.count % 48;
-    let first = given.values[0] as usize;
-    if count == 0 {
-        return Ok(());
+    match bytes[..given.count % 48].split_first() {
+        None => Ok(()),
+        Some((_, tape)) => read(to, tape, given.values[0] as usize),
     }
-    let tape = &bytes[1..count];
-    if letter == b'r' {
-        read(to, tape, first)
-    } else {
-        let mut text = [0u8; 1024];
-        drill(to, tape, &mut text[..first % 1025])
+}
+
+// The room for a text and a tape to drill.
+pub(crate) fn drill_row(to: &impl Print, given: Row) -> io::Result<()> {
+    let bytes = given.bytes();
+    match bytes[..given.count % 48].split_first() {
+        None => Ok(()),
+        Some((_, tape)) => {
+            let mut text = [0u8; 1024];
+            let room = given.values[0] as usize % 1025;
+            drill(to, tape, &mut text[..room])
+        }
     }
 }
 

@@ -10,7 +10,7 @@ use Rattle.slots.proofs.OfSlots.{of_owner}
 use Rattle.layout.specs.Directory.{decoded}
 use Rattle.capi_machine.specs.Call.{narrowed}
 use Rattle.capi_machine.specs.Place.{peek_returned, store_left, offset_left}
-use Rattle.capi_machine.proofs.NewestLaws.{from_cache_lem, from_memory}
+use Rattle.capi_machine.proofs.NewestLaws.{from_cache_lem, place_there, from_memory}
 use Rattle.capi_machine.proofs.trainer_peek.Goals as goal
 
 pub returns-in-Err : goal.returns-in-Err
@@ -28,7 +28,8 @@ returns-then-unit-lt4 c =
     let r = rw (c.decode-d.ensures, c.capped-b.ensures, c.into.ensures) at (c.in-Ok.ensures) in
     let o : c.owner-unit.result ≡ owner_of (decoded a.directory.now) (narrowed a.block) =
     rw (c.decode-d.ensures, c.capped-b.ensures, c.into.ensures) at (c.owner-unit.ensures ∙ of_owner c.decode-d.result _) in
-    rw (c.from.ensures, c.from-then-unit-lt4.ensures, c.capped-b.ensures, c.into.ensures) (from_cache_lem a.directory.now a.memory.now a.cache.now a.block _ _ _ _ r refl o c.if-unit-lt4.true)
+    let x = from_cache_lem a.directory.now a.memory.now a.cache.now a.block _ _ _ _ r refl o c.if-unit-lt4.true in
+    rw (c.cache_place.ensures, c.from-address.ensures, c.capped-b.ensures, c.into.ensures) (x.0, x.1, place_there _ _ ∙ x.2)
 
 pub returns-else-unit-lt4 : goal.returns-else-unit-lt4
 returns-else-unit-lt4 c =
@@ -36,4 +37,4 @@ returns-else-unit-lt4 c =
     let r = rw (c.decode-d.ensures, c.capped-b.ensures, c.into.ensures) at (c.in-Ok.ensures) in
     let o : c.owner-unit.result ≡ owner_of (decoded a.directory.now) (narrowed a.block) =
     rw (c.decode-d.ensures, c.capped-b.ensures, c.into.ensures) at (c.owner-unit.ensures ∙ of_owner c.decode-d.result _) in
-    rw (c.from-else-unit-lt4.ensures, c.capped-b.ensures, c.into.ensures) (from_memory a.directory.now a.memory.now a.cache.now a.block _ _ _ _ r refl o c.if-unit-lt4.false)
+    rw (c.from-address.ensures, c.capped-b.ensures, c.into.ensures) (from_memory a.directory.now a.memory.now a.cache.now a.block _ _ _ _ r refl o c.if-unit-lt4.false)
