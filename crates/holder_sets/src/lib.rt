@@ -33,14 +33,20 @@ fn with_set(holders: [u8; 64], block: u8, units: u8) -> [u8; 64]
     left
 }
 
+// The unit is no longer among the block's holders.
+fn left_by(holders: [u8; 64], unit: u8, block: u8) -> [u8; 64]
+    ensures { result ≡ slice_set holders block (slice_index holders block - weight_of unit) }
+{
+    let units = set_at(holders, block).saturating_sub(weight(unit));
+    with_set(holders, block, units)
+}
+
 // The unit no longer has the block that its slot had, if the slot was valid.
 #[tactic(auto, unfolding(crate::specs::Sets::vacated))]
 fn vacated_sets(holders: [u8; 64], slot: Slot, unit: u8, block: u8) -> [u8; 64]
     ensures { result ≡ vacated holders slot unit block }
 {
-    let old = block_or(slot, block);
-    let units = set_at(holders, old).saturating_sub(weight(unit));
-    with_set(holders, old, units)
+    left_by(holders, unit, block_or(slot, block))
 }
 
 // After a missed load: the unit, whose slot was as given, has the block beside its other holders.
@@ -66,8 +72,7 @@ pub fn claimed_sets(holders: [u8; 64], slot: Slot, unit: u8, block: u8) -> [u8; 
 pub fn flushed_sets(holders: [u8; 64], unit: u8, block: u8) -> [u8; 64]
     ensures { result ≡ flushed_sets holders unit block }
 {
-    let units = set_at(holders, block).saturating_sub(weight(unit));
-    with_set(holders, block, units)
+    left_by(holders, unit, block)
 }
 
 // After a store of a write-through unit: it has the block if it `held` it, and no other unit has.
