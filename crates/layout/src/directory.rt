@@ -108,10 +108,9 @@ fn encode_slots(slots: [Entry; 64], out: &mut [u8])
     requires { 128 ≤ length out.old }
     ensures { out.new ≡ slot_bytes 64 (of_slots slots) ++ drop 128 out.old }
 {
-    for n in 0..64 {
-        let slot = slots[n].slot;
-        out[2 * n] = rank(slot);
-        out[2 * n + 1] = block_or(slot, 0);
+    for (n, entry) in slots.iter().enumerate() {
+        out[2 * n] = rank(entry.slot);
+        out[2 * n + 1] = block_or(entry.slot, 0);
     }
 }
 

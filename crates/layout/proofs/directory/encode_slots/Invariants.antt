@@ -6,6 +6,6 @@ use Rattle.layout.proofs.directory.encode_slots.Given as goal
 
 abbrev pub invariant-loop-n : goal.invariant-loop-n
 invariant-loop-n l = record {
-  room : length l.out ≡ length l.initial.out;
-  put : l.out ≡ slot_bytes l.n (of_slots l.slots) ++ drop (2 * l.n) l.initial.out;
+  room : length l.out ≡ length l.fn.out;
+  put : l.out ≡ slot_bytes l.n (of_slots l.fn.slots) ++ drop (2 * l.n) l.fn.out;
 }
