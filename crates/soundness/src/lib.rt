@@ -98,8 +98,8 @@ fn none_modified(ranks: [u8; 64], unit: u8) -> bool
 {
     let first = 16 * usize::from(unit);
     let mut good = true;
-    for s in 0..16 {
-        good &= ranks[first + s] != 2;
+    for &rank in &ranks[first..first + 16] {
+        good &= rank != 2;
     }
     good
 }
