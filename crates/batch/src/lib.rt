@@ -51,7 +51,8 @@ pub fn run_batch(
     }
 }
 
-// The first `count` accesses of an array, all of them if it has no more: whoever calls this lends no slice of structs.
+// The first `count` accesses of an array, all of them if it has no more. It stays beside `run_batch`: a public function with its clause, which the edits
+// `whole_array_run` and `at_most_below` hold.
 pub fn run_array(
     list: [Access; 64],
     count: usize,

@@ -114,7 +114,8 @@ fn open_numbers(directory: Directory, length: usize, room: usize) -> Outcome
     )
 }
 
-// The accesses of the list in turn, up to the first refused one.
+// The accesses of the list in turn, up to the first refused one. The outcome itself says where the next part starts and whether there is one; a `for` over
+// chunks would hold the same place a second time.
 pub fn run_numbers(
     accesses: &[u32],
     values: &mut [u32],

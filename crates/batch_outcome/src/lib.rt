@@ -19,13 +19,9 @@ pub const MOST_ACCESSES: usize = 65536;
 pub fn open(directory: Directory, count: usize, room: usize) -> Outcome
     ensures { told result ≡ opened directory count room }
 {
-    let refusal = if count <= MOST_ACCESSES && count <= room {
-        None
-    } else {
-        Some(Refusal::NoRoom)
-    };
+    let too_long = count > MOST_ACCESSES || count > room;
     Outcome {
-        refusal,
+        refusal: too_long.then_some(Refusal::NoRoom),
         index: 0,
         orders: 0,
         directory,

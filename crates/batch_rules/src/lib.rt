@@ -4,7 +4,7 @@
 use coherence::{Call, Directory};
 use order::Refusal;
 
-// An access as a list holds it. Kept: a list is a slice of structs, as document 01 asks.
+// An access as a list holds it: a list is a slice of structs, as document 01 asks and `run_batch` takes it.
 #[derive(Clone, Copy)]
 pub struct Access {
     pub call: Call,

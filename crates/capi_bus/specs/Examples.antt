@@ -5,7 +5,7 @@ use Rattle.order.specs.declared.Refusal.TheVariants.{FieldRange}
 use Rattle.order.specs.Refusal.{number_of}
 use Rattle.bus.specs.Transfer.{plan_of}
 use Rattle.bus.specs.Answer.{class_of, is_error}
-use Rattle.capi_bus.specs.Bus.{left, most, plan_from}
+use Rattle.capi_bus.specs.Bus.{left, left_of, most, plan_from}
 use Rattle.capi_bus.specs.Class.{class_number, carried_of, class_from, code_asked}
 
 -- a code's class, the number that it carries, and whether it is an error
@@ -24,6 +24,7 @@ pub record Examples : Type 0 where
   pub most : (most 255 255 ≡ 0) × (most 255 256 ≡ 8)
   -- a refused call leaves a lent number
   pub left : (v x : ℕ) → (left 0 v x ≡ v) × (left 8 v x ≡ x)
+  pub left_of : (v x : ℕ) → (left_of (Ok v) (λ n. n) x ≡ v) × (left_of {T = ℕ} (Err FieldRange) (λ n. n) x ≡ x)
   -- locked is 1, and not locked 0
   pub unlocked : (n cycle : ℕ) → plan_from n cycle 0 ≡ plan_of n cycle false
   pub locked : (n cycle : ℕ) → plan_from n cycle 1 ≡ plan_of n cycle true

@@ -12,7 +12,7 @@ pub enum Slot {
     Modified(u8),
 }
 
-// A slot as an array of slots holds it.
+// A slot as an array of slots holds it. It stays a struct: `slot_at`, `set_slot` and the theorems over a directory's slots speak of its field.
 #[derive(Clone, Copy)]
 pub struct Entry {
     pub slot: Slot,
@@ -26,7 +26,7 @@ pub enum Kind {
     WriteThrough,
 }
 
-// A board as an array of boards holds it.
+// A board as an array of boards holds it. It stays a struct: `through` and the theorems on settings speak of its field.
 #[derive(Clone, Copy)]
 pub struct Board {
     pub kind: Kind,

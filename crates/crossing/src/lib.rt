@@ -51,7 +51,8 @@ impl Narrow for u32 {
     const MOST: u32 = u32::MAX;
 }
 
-// A number in such a type. What the type does not hold becomes the most that it holds.
+// A number in such a type. What the type does not hold becomes the most that it holds: the definition `capped` has it so, and who takes the number refuses
+// it, in its place among the tests.
 pub fn capped<T: Narrow>(n: u64) -> T
     ensures { T.number result ≡ capped (T.number T.MOST) n }
 {

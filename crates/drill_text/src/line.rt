@@ -1,5 +1,6 @@
 // The lines of a drill. Each function puts a part of the text at the place `at` of `out`, if it has room, and answers the place after it. The two stay
-// parameters: each method of a struct that lends `out` would have to promise besides that it keeps the reference (`self.new.out.ghost_name`).
+// parameters: each method of a struct that lends `out` would have to promise besides that it keeps the reference (`self.new.out.ghost_name`). Each
+// requires a bound on `at` that leaves room for its own part; one bound in a type would not hold behind the first part.
 ghost use Rattle.std.specs.Prelude.{◌+◌, ◌≤◌, ◌<◌, ◌^◌, ◌++◌, length};
 ghost use Rattle.order.specs.Refusal.{refusal_number};
 ghost use Rattle.drill_format.specs.Line.{field, access_part, orders_part, total_line, refused_line};
@@ -33,8 +34,8 @@ fn put_head(out: &mut [u8], at: usize, name: &[u8], unit: u8, target: u32) -> us
     ensures { Puts (name.now ++ field unit ++ field target) out.old at out.new result × (result ≤ at + 62) }
 {
     let second = put(out, at, name);
-    let third = put_field(out, second, unit as u64);
-    put_field(out, third, target as u64)
+    let third = put_field(out, second, unit.into());
+    put_field(out, third, target.into())
 }
 
 #[tactic(auto, unfolding(drill_format::specs::Line::access_part, text::specs::Space::ascii))]
@@ -45,7 +46,7 @@ pub(crate) fn put_access(out: &mut [u8], at: usize, call: Call, loaded: u32) -> 
     match call {
         Call::Load { unit, address } => {
             let next = put_head(out, at, b"load", unit, address);
-            put_field(out, next, loaded as u64)
+            put_field(out, next, loaded.into())
         }
         Call::Store {
             unit,
@@ -53,9 +54,9 @@ pub(crate) fn put_access(out: &mut [u8], at: usize, call: Call, loaded: u32) -> 
             value,
         } => {
             let next = put_head(out, at, b"store", unit, address);
-            put_field(out, next, value as u64)
+            put_field(out, next, value.into())
         }
-        Call::Flush { unit, block } => put_head(out, at, b"flush", unit, block as u32),
+        Call::Flush { unit, block } => put_head(out, at, b"flush", unit, block.into()),
     }
 }
 

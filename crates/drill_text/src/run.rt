@@ -72,7 +72,8 @@ fn take(s: Progress, memory: &mut [u8], cache: &mut [u8], out: &mut [u8], item: 
 }
 
 // All records of the tape, from the machine's state on, and the last line. The answer is how many bytes the text has. The loop stays a function of its own:
-// compiled into its caller it would move the directory byte by byte.
+// compiled into its caller it would move the directory byte by byte. A record's length is known once it is read, so the place comes from each answer; the end
+// and a refusal each print a last line of their own.
 #[inline(never)]
 pub(crate) fn run_tape(
     tape: &[u8],

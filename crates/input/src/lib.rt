@@ -12,6 +12,7 @@ pub struct ReadError {
 }
 
 // Reads until the buffer is full, the input ends or a read fails, and says how many bytes were read. They stand at the start of the buffer.
+// How many bytes a read gives is the system's, so no `for` goes over the buffer.
 pub fn read_input<R: Read>(from: &mut R, buffer: &mut [u8]) -> Result<usize, ReadError>
     ensures { MatchResult result (λ size. (size ≤ length buffer.new) × (size ≡ length (take size buffer.new))) (λ error. (error.size ≤ length buffer.new) × (error.size ≡ length (take error.size buffer.new))) }
 {

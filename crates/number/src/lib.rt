@@ -7,7 +7,7 @@ ghost use Rattle.number.specs.Number.{number_at};
 use order::Refusal;
 
 // The most groups of a number, and the most that the last of so many can hold.
-pub const GROUPS: u64 = 10;
+pub const GROUPS: usize = 10;
 
 pub const LAST: u64 = 1;
 
@@ -24,7 +24,7 @@ fn read_more(tape: &[u8], at: usize, first: u64) -> Result<(u64, usize), Refused
     requires { (at < length tape.now) × (first ≡ get_or tape.now at 0) × (127 < first) }
     ensures { result ≡ number_at tape.now at }
 {
-    let last = at + (GROUPS as usize - 1);
+    let last = at + (GROUPS - 1);
     let end = tape.len().min(last);
     let mut value = first % 128;
     let mut weight: u64 = 128;

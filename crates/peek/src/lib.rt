@@ -38,7 +38,7 @@ pub fn peek<'a>(directory: Directory, memory: &'a [u8], cache: &'a [u8], block: 
         let at = 32 * place_of(unit, block);
         &cache[at..at + 32]
     } else {
-        let at = 32 * (block as usize);
+        let at = 32 * usize::from(block);
         &memory[at..at + 32]
     }
 }

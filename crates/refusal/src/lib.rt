@@ -1,4 +1,4 @@
-// The tests of a call, in their order, and the refusal of the first that fails.
+// The tests of a call, in their order, and the refusal of the first that fails. Directory and stores stand apart, as `machine` says.
 #![tactic(auto)]
 
 ghost use Rattle.std.specs.Prelude.{◌≡◌};

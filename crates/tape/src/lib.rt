@@ -115,7 +115,8 @@ fn read_stamp(tape: &[u8], at: usize) -> Result<Option<(Record, usize)>, Refused
     Ok(Some((Record::Stamp(cycles), at)))
 }
 
-// The record of a kind that stands at `start`, with its fields at `at`.
+// The record of a kind that stands at `start`, with its fields at `at`. By the kind's number, as the papers' table has it: an enum between would be matched
+// again at once.
 #[tactic(auto, unfolding(tape_format::specs::Record::kind_at, tape_format::specs::Record::layout_of))]
 fn read_kind(
     tape: &[u8],

@@ -19,6 +19,7 @@ pub enum Rule {
     Cycles,
 }
 
+// Its accesses are no `Call`: the tape's crates stand below the machine's, and `reading::access_of` says which call a record asks.
 #[derive(Clone, Copy, Debug, PartialEq, Eq)]
 pub enum Record {
     Load(u8, u32),

@@ -1,4 +1,4 @@
-// A reader: the tape together with a place on it (document 01, "The tape").
+// A reader: the tape together with a place on it (document 01, "The tape"). It is no `Iterator`: by `place_after` it stays where it is on a refusal.
 #![tactic(auto)]
 
 ghost use Rattle.std.specs.Prelude.{◌≡◌};

@@ -1,4 +1,5 @@
-// The archive for programs in other languages, which `include/trainer.h` declares: each function of the crates `capi_*`, exported with the same clauses.
+// The archive for programs in other languages, which `include/trainer.h` declares: each function of the crates `capi_*`, exported with the same clauses:
+// a crate that another one uses exports nothing to C.
 #![tactic(auto)]
 
 mod batch_exports;

@@ -1,4 +1,4 @@
-// The size of a record for programs in other languages, as `capi_tape` has the tape's other calls. A part of its own: in each part the functions below have one caller,
+// The size of a record for programs in other languages.
 ghost use Rattle.std.specs.Prelude.{◌≡◌};
 ghost use Rattle.record_numbers.specs.Entry.{record_from};
 ghost use Rattle.capi_size.specs.Calls.{size_returned, size_left};

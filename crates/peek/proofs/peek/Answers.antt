@@ -44,4 +44,4 @@ returns-else-unit-lt4 c =
     let a = c.args in
     let h : 4 ≤ owner_of a.directory a.block = omega (arith, c.owner-unit.ensures ∙ of_owner a.directory _, c.if-unit-lt4.false) in
     let z = accepted_peek _ _ _ _ _ _ c.check_peek.ensures c.is_err.ensures.value c.if-is_err.false in
-    rw (eq-eqb _ _ z, le-ltb _ 4 h) (rw part_is, search rules, search rules)
+    rw (eq-eqb _ _ z, le-ltb _ 4 h, c.from-at.ensures) (rw part_is, search rules, search rules)
