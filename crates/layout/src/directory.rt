@@ -90,6 +90,7 @@ pub fn decode(bytes: &[u8]) -> Directory
     }; 64];
     if (bytes.len() == 194) & (set <= 15) & (steal <= 1) {
         let words = pairs(bytes);
+        // By place, into the array that stays where the bytes spell none: with `map` the two would be two arms.
         for n in 0..64 {
             slots[n] = Entry {
                 slot: slot_spelled(words[n]),
