@@ -19,6 +19,7 @@ fn flag_from(number: u64) -> Result<bool, Refusal>
     }
 }
 
+// `map_err` with each number: the contract of one function for both types would have to speak of `try_from_gives`, and be longer than what it saves.
 #[tactic(auto, unfolding(crate::specs::Entry::store_from))]
 fn store_from(unit: u64, address: u64, value: u64) -> Result<Record, Refusal>
     ensures { result ≡ store_from unit address value }
