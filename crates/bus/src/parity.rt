@@ -10,6 +10,7 @@ pub struct Checked {
     pub count: u32,
 }
 
+// By a shift, as the definition `byte_at` divides; by `to_be_bytes` it would need a law more.
 #[tactic(auto, using(crate::proofs::ByteLaws::byte_of_shift))]
 fn byte_at(word: u64, k: u32) -> u32
     requires { k < 8 }

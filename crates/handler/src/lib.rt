@@ -134,6 +134,7 @@ fn first_met(set: u8, last: u8) -> Option<u8>
     None
 }
 
+// `contains` is a definition of `numeric`, which has no code; `bus` takes a bit of its set as a number.
 #[tactic(auto, unfolding(numeric::specs::Bits::bit_at, numeric::specs::Bits::contains))]
 fn contains(set: u8, unit: u8) -> bool
     requires { unit ≤ 7 }

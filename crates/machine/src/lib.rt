@@ -1,8 +1,9 @@
 // The cache machine: cold start, loads, stores and flushes. Each call tests its inputs, and answers and leaves what the
 // definitions of `coherence` say, for every input. A call takes slots, settings and sets of holders apart,
 // and its answer puts them together.
-// Directory and stores stand apart in each signature, here and in the crates around: C lends `trainer_load`, `trainer_store` and `trainer_flush` the stores as slices of any length, and
-// the clauses name each store as it was and as it is left.
+// Directory and stores stand apart in each signature, here and in the crates around: C lends `trainer_load`, `trainer_store` and `trainer_flush` the stores as
+// slices of any length, and the clauses name each store as it was and as it is left. The parts of a fetch are called in `load` and in `store`: a function for
+// both would take seven values and give back three.
 #![tactic(auto)]
 
 ghost use Rattle.std.specs.Prelude.{◌≡◌};

@@ -9,6 +9,7 @@ use crossing::capped;
 use order::{Command, Order, Refusal};
 use tape_format::Record;
 
+// The C functions test a flag of theirs by themselves, each in its place among their tests.
 fn flag_from(number: u64) -> Result<bool, Refusal>
     ensures { result ≡ cond (leb number 1) (Ok (eqb number 1)) (Err FieldRange) }
 {
