@@ -3,7 +3,7 @@
 // and its answer puts them together.
 // Directory and stores stand apart in each signature, here and in the crates around: C lends `trainer_load`, `trainer_store` and `trainer_flush` the stores as
 // slices of any length, and the clauses name each store as it was and as it is left. The parts of a fetch are called in `load` and in `store`: a function for
-// both would take seven values and give back three.
+// both would take nine values and give back the holder and the orders.
 #![tactic(auto)]
 
 ghost use Rattle.std.specs.Prelude.{◌≡◌};

@@ -77,7 +77,7 @@ fn changed(to: &impl Print, space: Space, bytes: &[u8]) -> io::Result<()> {
     Ok(())
 }
 
-// By the crates' own functions and not by the C ones, as `access` too: the rows try the machine itself.
+// One call for `machine::run`, here and in `access`: with the three C calls in its stead this part's check takes twice as long (docs/DECISIONS.md).
 fn call_of(n: [u32; 48]) -> Call {
     let unit = crossing::capped(n[4].into());
     match n[3] {
