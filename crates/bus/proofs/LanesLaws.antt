@@ -1,5 +1,5 @@
 -- Laws of the byte lanes: the valid positions are BCT + 1 in a row from RA mod 8 on, and there are two words exactly where one of them
--- lies past position 7.
+-- lies past position 7; and different answers are told differently.
 use Prim.Native.Nat.{ℕ, zero, suc, ◌+◌, ◌-◌, ◌*◌, ◌/◌, ◌%◌, ◌^◌, ◌≤◌, ◌<◌}
 use mathlib.Core.Bool.{Bool, true, false, cond}
 use mathlib.Core.Logic.{◌↔◌, ⊎_elim}
@@ -12,9 +12,11 @@ use lib.Pow.{pow_pos, pow-add, pow_mono, shl_exact}
 use borrow.Author.Tests.{le-leb, lt-leb}
 use Rattle.std.specs.Prelude.{Ok, Err}
 use Rattle.order.specs.declared.Refusal.TheVariants.{FieldRange}
+use Rattle.order.specs.Refusal.{field_range}
+use Rattle.order.proofs.RefusalLaws.{refusal_one, number_pos}
 use Rattle.numeric.specs.Range.{within}
 use Rattle.numeric.specs.Bits.{bit_at, ones_below, from_bits}
-use Rattle.bus.specs.Lanes.{carried_at, positions_of, words_of, lanes_of}
+use Rattle.bus.specs.Lanes.{carried_at, positions_of, words_of, lanes_of, LanesAnswer, refused_lanes, lanes_told, LanesApart}
 use Rattle.numeric.proofs.Cases.{le_or_lt}
 use Rattle.numeric.proofs.RangeLaws.{within_in, within_under, within_over}
 use Rattle.numeric.proofs.BitsLaws.{from_step, from_none, from_lt, bit_from, ones_count}
@@ -113,9 +115,14 @@ pub lanes_accepted : (ra bct : ℕ) → bct ≤ 7
 unfolding lanes_of
 lanes_accepted ra bct l = rw (within_in 0 7 bct (omega arith) l, words_of_sum ra bct l, positions_of_shift ra bct l)
 
-pub lanes_refused : (ra bct : ℕ) → 7 < bct → lanes_of ra bct ≡ Err FieldRange
+lanes_err : (ra bct : ℕ) → 7 < bct → lanes_of ra bct ≡ Err FieldRange
 unfolding lanes_of
-lanes_refused ra bct l = rw (within_over 0 7 bct l)
+lanes_err ra bct l = rw (within_over 0 7 bct l)
+
+pub lanes_refused : (ra bct : ℕ) → 7 < bct
+    → (lanes_of ra bct ≡ Err FieldRange) × (lanes_told (lanes_of ra bct) ≡ record { refusal = field_range; words = 0; positions = 0 })
+unfolding lanes_told refused_lanes
+lanes_refused ra bct l = let e = lanes_err ra bct l in (e, rw e)
 
 -- ---- the laws
 
@@ -159,3 +166,12 @@ two_words ra bct l = (there, back)
 
     back : (p : ℕ) × (7 < p) × (p < 16) × (bit_at p (positions_of ra bct) ≡ 1) → words_of ra bct ≡ 2
     back h = omega (arith, words_of_sum ra bct l, h.1, (position_in ra bct h.0 h.2).0 h.3)
+
+-- ---- the code's answers
+
+pub lanes_apart : LanesApart
+unfolding LanesApart lanes_told refused_lanes
+lanes_apart (Ok a) (Ok b) e = ap (λ (x : LanesAnswer). Ok (record { words = x.words; positions = x.positions })) e
+lanes_apart (Ok a) (Err y) e = absurd (omega (arith, number_pos y, ap (λ (x : LanesAnswer). x.refusal) e))
+lanes_apart (Err x) (Ok b) e = absurd (omega (arith, number_pos x, ap (λ (z : LanesAnswer). z.refusal) e))
+lanes_apart (Err x) (Err y) e = ap Err (refusal_one x y (ap (λ (z : LanesAnswer). z.refusal) e))

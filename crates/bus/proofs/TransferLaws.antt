@@ -1,17 +1,19 @@
--- The plan of an accepted cycle by how many cycles come after it, the two ways to be refused, and what lock changes.
+-- The plan of an accepted cycle by how many cycles come after it, the two ways to be refused, what lock changes, and that different answers are
+-- told differently.
 use Prim.Native.Nat.{ℕ, ◌+◌, ◌-◌, ◌≤◌, ◌<◌}
 use mathlib.Core.Bool.{Bool, true, false, cond, ◌&&◌, and-false}
 use mathlib.Core.Logic.{◌≢◌, ◌⊎◌, ⊎_elim}
-use mathlib.Core.Path.{◌≡◌, refl, sym, ◌∙◌}
+use mathlib.Core.Path.{◌≡◌, refl, sym, ap, ◌∙◌}
 use native.Mathlib.Omega.{arith}
 use lib.Dec.{leb, eqb}
 use borrow.Author.Tests.{le-leb, lt-leb}
 use Rattle.std.specs.Prelude.{Result, Ok, Err}
 use Rattle.order.specs.declared.Refusal.{Refusal}
 use Rattle.order.specs.declared.Refusal.TheVariants.{FieldRange}
+use Rattle.order.proofs.RefusalLaws.{refusal_one, number_pos}
 use Rattle.numeric.specs.Range.{within}
 use Rattle.bus.specs.declared.transfer.SignalPlan.{SignalPlan}
-use Rattle.bus.specs.Transfer.{et_raised_at_request, plan_of, without_request, LockChanges, RefusesPlan}
+use Rattle.bus.specs.Transfer.{et_raised_at_request, plan_of, without_request, PlanAnswer, refused_plan, plan_told, PlansApart, LockChanges, RefusesPlan}
 use Rattle.numeric.proofs.Cases.{le_or_lt}
 use Rattle.numeric.proofs.RangeLaws.{within_in, within_under, within_over}
 
@@ -68,12 +70,20 @@ pub lock_changes : LockChanges
 unfolding within plan_of et_raised_at_request
 lock_changes = record { nothing_else = nothing_else_lem; no_other = no_other_lem; one = (refl, refl) }
 
--- the two ways to be refused, in the paper's numbers
+-- the two ways to be refused, in the paper's numbers and field by field
 outside : (most n : ℕ) → (n ≡ 0) ⊎ (most < n) → within 1 most n ≡ false
 outside most n h = ⊎_elim (λ (e : n ≡ 0). within_under 1 most n (omega arith)) (λ (l : most < n). within_over 1 most n l) h
 
 pub refuses_plan : RefusesPlan
+unfolding plan_told refused_plan
 refuses_plan = record {
-  no_transfer = λ n cycle locked h. let e = plan_no_transfer n cycle locked (outside 64 n h) in (e, rw e);
-  no_cycle = λ n cycle locked h. let e = plan_no_cycle n cycle locked (outside n cycle h) in (e, rw e);
+  no_transfer = λ n cycle locked h. let e = plan_no_transfer n cycle locked (outside 64 n h) in (e, rw e, rw e);
+  no_cycle = λ n cycle locked h. let e = plan_no_cycle n cycle locked (outside n cycle h) in (e, rw e, rw e);
 }
+
+pub plans_apart : PlansApart
+unfolding PlansApart plan_told refused_plan
+plans_apart (Ok p) (Ok q) e = ap (λ (x : PlanAnswer). Ok (record { bs = x.bs; bur = x.bur; et = x.et; et_at_request = x.et_at_request })) e
+plans_apart (Ok p) (Err y) e = absurd (omega (arith, number_pos y, ap (λ (x : PlanAnswer). x.refusal) e))
+plans_apart (Err x) (Ok q) e = absurd (omega (arith, number_pos x, ap (λ (z : PlanAnswer). z.refusal) e))
+plans_apart (Err x) (Err y) e = ap Err (refusal_one x y (ap (λ (z : PlanAnswer). z.refusal) e))

@@ -3,7 +3,7 @@
 use Rattle.std.specs.Prelude.{ℕ, ◌-◌, ◌<◌, Bool, true, false, Result, Ok, Err, cond, ◌&&◌, ◌||◌, ◌≢◌, ◌⊎◌, ◌≡◌, leb, eqb}
 use Rattle.order.specs.declared.Refusal.{Refusal}
 use Rattle.order.specs.declared.Refusal.TheVariants.{FieldRange}
-use Rattle.order.specs.Refusal.{number_of}
+use Rattle.order.specs.Refusal.{accepted, refusal_number, number_of}
 use Rattle.numeric.specs.Range.{within}
 use Rattle.bus.specs.declared.transfer.SignalPlan.{SignalPlan}
 
@@ -23,6 +23,31 @@ unfoldable pub without_request : Result SignalPlan Refusal → Result SignalPlan
 without_request (Ok p) = Ok record { bs = p.bs; bur = p.bur; et = p.et; et_at_request = false }
 without_request (Err refusal) = Err refusal
 
+-- ---- the answer in document 01's numbers
+
+-- the number of refusal or 0, and the levels
+pub record PlanAnswer : Type 0 where
+  pub refusal : ℕ
+  pub bs : Bool
+  pub bur : Bool
+  pub et : Bool
+  pub et_at_request : Bool
+
+-- refused with number n: every level negated
+unfoldable pub refused_plan : ℕ → PlanAnswer
+refused_plan n = record { refusal = n; bs = false; bur = false; et = false; et_at_request = false }
+
+-- the code's answer in these numbers
+unfoldable pub plan_told : Result SignalPlan Refusal → PlanAnswer
+plan_told (Ok p) = record { refusal = accepted; bs = p.bs; bur = p.bur; et = p.et; et_at_request = p.et_at_request }
+plan_told (Err refusal) = refused_plan (refusal_number refusal)
+
+-- different answers of the code are told differently
+unfoldable pub PlansApart : Type 0
+PlansApart = (r s : Result SignalPlan Refusal) → plan_told r ≡ plan_told s → r ≡ s
+
+-- ---- what is claimed
+
 -- T-02: lock changes ET at the request and nothing else, and only for n = 1
 pub record LockChanges : Type 0 where
   pub nothing_else : (n cycle : ℕ) → without_request (plan_of n cycle true) ≡ without_request (plan_of n cycle false)
@@ -31,7 +56,13 @@ pub record LockChanges : Type 0 where
       (plan_of 1 1 true ≡ Ok record { bs = true; bur = false; et = false; et_at_request = true })
       × (plan_of 1 1 false ≡ Ok record { bs = true; bur = false; et = false; et_at_request = false })
 
--- "1 to 64; else refusal 8", "Cycle 0 or above n: refusal 8", and refused no level at all; locked or not
+-- "1 to 64; else refusal 8", "Cycle 0 or above n: refusal 8", and refused "every level negated", written out; locked or not
 pub record RefusesPlan : Type 0 where
-  pub no_transfer : (n cycle : ℕ) (locked : Bool) → (n ≡ 0) ⊎ (64 < n) → (plan_of n cycle locked ≡ Err FieldRange) × (number_of (plan_of n cycle locked) ≡ 8)
-  pub no_cycle : (n cycle : ℕ) (locked : Bool) → (cycle ≡ 0) ⊎ (n < cycle) → (plan_of n cycle locked ≡ Err FieldRange) × (number_of (plan_of n cycle locked) ≡ 8)
+  pub no_transfer : (n cycle : ℕ) (locked : Bool) → (n ≡ 0) ⊎ (64 < n)
+      → (plan_of n cycle locked ≡ Err FieldRange)
+      × (number_of (plan_of n cycle locked) ≡ 8)
+      × (plan_told (plan_of n cycle locked) ≡ record { refusal = 8; bs = false; bur = false; et = false; et_at_request = false })
+  pub no_cycle : (n cycle : ℕ) (locked : Bool) → (cycle ≡ 0) ⊎ (n < cycle)
+      → (plan_of n cycle locked ≡ Err FieldRange)
+      × (number_of (plan_of n cycle locked) ≡ 8)
+      × (plan_told (plan_of n cycle locked) ≡ record { refusal = 8; bs = false; bur = false; et = false; et_at_request = false })
