@@ -55,7 +55,7 @@ alike false p q r e = refl
 
 nothing_else_lem : (n cycle : ℕ) → without_request (plan_of n cycle true) ≡ without_request (plan_of n cycle false)
 unfolding plan_of without_request
-nothing_else_lem n cycle = alike (within 1 64 n && within 1 n cycle) _ _ (Err FieldRange) refl
+nothing_else_lem n cycle = alike (within 1 64 n && within 1 n cycle) _ _ _ refl
 
 no_other_lem : (n cycle : ℕ) → n ≢ 1 → plan_of n cycle true ≡ plan_of n cycle false
 no_other_lem n cycle ne =
