@@ -9,7 +9,7 @@ use lib.Dec.{leb}
 use lib.ListN.{length, length-set, get_or, drop, set}
 use lib.Seq.{drop-cons, drop-length}
 use borrow.Author.Tests.{leb-true}
-use Rattle.std.specs.Prelude.{Option, None, Some, Ok, Err, is_some}
+use Rattle.std.specs.Prelude.{Ok, Err}
 use Rattle.order.specs.declared.Refusal.{Refusal}
 use Rattle.order.specs.Refusal.{refusal_number}
 use Rattle.coherence.specs.declared.Directory.{Directory}
@@ -17,7 +17,7 @@ use Rattle.coherence.specs.declared.Accepted.{Accepted}
 use Rattle.coherence.specs.Calls.{answer, memory_after, cache_after, told as told_call}
 use Rattle.batch_rules.specs.declared.Access.{Access}
 use Rattle.batch_rules.specs.declared.Outcome.{Outcome as Answered}
-use Rattle.batch_rules.specs.Outcome.{Outcome, refusal_told, told}
+use Rattle.batch_rules.specs.Outcome.{Outcome, told}
 use Rattle.batch_rules.specs.Batch.{Batch, batch, ran, none, opened, batch_result}
 use Rattle.batch_rules.proofs.RanLaws.{answered_few, ran_none, ran_still, ran_refused, ran_accepted}
 use Rattle.order.proofs.RefusalLaws.{number_not_0}
@@ -25,22 +25,6 @@ use Rattle.order.proofs.RefusalLaws.{number_not_0}
 -- so many accesses made, and none refused
 abbrev pub accepted : ℕ → ℕ → Directory → Outcome
 accepted index orders d = record { refusal = 0; index = index; orders = orders; directory = d }
-
-told_fresh : (r : Answered) → is_some r.refusal ≡ false → (told r).refusal ≡ 0
-unfolding told
-told_fresh r = go r.refusal
-  where
-    go : (x : Option Refusal) → is_some x ≡ false → refusal_told x ≡ 0
-    go None e = refl
-    go (Some x) e = cc
-
-told_refused : (r : Answered) → is_some r.refusal ≡ true → (told r).refusal ≡ 0 → ⊥
-unfolding told
-told_refused r = go r.refusal
-  where
-    go : (x : Option Refusal) → is_some x ≡ true → refusal_told x ≡ 0 → ⊥
-    go None e = cc
-    go (Some x) e = number_not_0 x
 
 -- before a turn: what is left of the list ys comes to w, the result of the whole
 pub record Underway (ys : List Access) (w : Batch) (i orders : ℕ) (d : Directory) (vs m k : List ℕ) : Type 0 where
@@ -85,13 +69,13 @@ module _ {ys : List Access} {w : Batch} {i orders : ℕ} {d : Directory} {vs m k
 
 -- the whole list, on the outcome before its first access
 module _ (ys : List Access) (d : Directory) (vs m k : List ℕ) (r : Answered) (is : told r ≡ opened d (length ys) (length vs)) where
-  pub closed : is_some r.refusal ≡ true → batch (told r) vs m k ≡ batch_result ys vs d m k
-  unfolding batch_result
-  closed e = rw (← is) (sym (ran_still (told r) vs m k ys (told_refused r e)))
+  pub closed : (r.refusal ≡ 0 → ⊥) → batch (told r) vs m k ≡ batch_result ys vs d m k
+  unfolding batch_result told
+  closed e = rw (← is) (sym (ran_still (told r) vs m k ys e))
 
-  pub begun : is_some r.refusal ≡ false → Underway ys (batch_result ys vs d m k) 0 0 d vs m k
-  unfolding opened none batch_result
-  begun e = go (leb (length ys) 65536) (leb (length ys) (length vs)) refl refl (ap (λ (s : Outcome). s.refusal) (sym is) ∙ told_fresh r e)
+  pub begun : r.refusal ≡ 0 → Underway ys (batch_result ys vs d m k) 0 0 d vs m k
+  unfolding opened none batch_result told
+  begun e = go (leb (length ys) 65536) (leb (length ys) (length vs)) refl refl (ap (λ (s : Outcome). s.refusal) (sym is) ∙ e)
     where
       go : (s t : Bool) → leb (length ys) 65536 ≡ s → leb (length ys) (length vs) ≡ t → ◌≡◌ {A = ℕ} (cond (s && t) 0 9) 0
           → Underway ys (ran (none (cond (s && t) 0 9) d) vs m k ys) 0 0 d vs m k

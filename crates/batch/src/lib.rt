@@ -5,7 +5,7 @@ ghost use Rattle.std.specs.Prelude.{◌≡◌, take};
 ghost use Rattle.batch_rules.specs.Batch.{batch, batch_result};
 ghost use Rattle.batch_rules.specs.Outcome.{told};
 
-use batch_outcome::open;
+use batch_outcome::{number_of, open};
 use batch_rules::{Access, Outcome};
 use coherence::Directory;
 use machine::run;
@@ -21,7 +21,7 @@ pub fn run_batch(
     ensures { batch (told result) values.new memory.new cache.new ≡ batch_result list.now values.old directory memory.old cache.old }
 {
     let opened = open(directory, list.len(), values.len());
-    if opened.refusal.is_some() {
+    if opened.refusal != 0 {
         return opened;
     }
     let mut directory = directory;
@@ -35,7 +35,7 @@ pub fn run_batch(
             }
             Err(refusal) => {
                 return Outcome {
-                    refusal: Some(refusal),
+                    refusal: number_of(Some(refusal)),
                     index,
                     orders,
                     directory,
@@ -44,7 +44,7 @@ pub fn run_batch(
         }
     }
     Outcome {
-        refusal: None,
+        refusal: 0,
         index: list.len(),
         orders,
         directory,

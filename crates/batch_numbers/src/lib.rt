@@ -9,7 +9,7 @@ ghost use Rattle.batch_rules.specs.Outcome.{told};
 ghost use Rattle.batch_numbers.specs.Part.{access_from, access_known, Room, Parted};
 
 use batch::run_array;
-use batch_outcome::{goes_on, open, refused_by};
+use batch_outcome::{goes_on, number_of, open, refused_by};
 use batch_rules::{Access, Outcome};
 use coherence::{Call, Directory};
 use crossing::capped;
@@ -100,18 +100,16 @@ fn run_part(
         orders: s.orders + part.orders,
         ..part
     };
-    refused_by((count != most).then_some(Refusal::UnknownKind), made)
+    let refusal = (count != most).then_some(Refusal::UnknownKind);
+    refused_by(number_of(refusal), made)
 }
 
 // The outcome before the first access.
 fn open_numbers(directory: Directory, length: usize, room: usize) -> Outcome
     ensures { told result ≡ opened_numbers directory length room }
 {
-    let cut = length % 4 != 0;
-    refused_by(
-        cut.then_some(Refusal::FieldRange),
-        open(directory, length / 4, room),
-    )
+    let refusal = (length % 4 != 0).then_some(Refusal::FieldRange);
+    refused_by(number_of(refusal), open(directory, length / 4, room))
 }
 
 // The accesses of the list in turn, up to the first refused one. The outcome itself says where the next part starts and whether there is one; a `for` over

@@ -21,7 +21,7 @@ pub fn open(directory: Directory, count: usize, room: usize) -> Outcome
 {
     let too_long = count > MOST_ACCESSES || count > room;
     Outcome {
-        refusal: too_long.then_some(Refusal::NoRoom),
+        refusal: number_of(too_long.then_some(Refusal::NoRoom)),
         index: 0,
         orders: 0,
         directory,
@@ -33,15 +33,24 @@ pub fn open(directory: Directory, count: usize, room: usize) -> Outcome
 pub fn goes_on(s: Outcome, count: usize) -> bool
     ensures { result ≡ (eqb (told s).refusal accepted && ltb (told s).index count) }
 {
-    s.refusal.is_none() && s.index < count
+    s.refusal == 0 && s.index < count
 }
 
-// The outcome, refused for a reason of the list's own where nothing is refused before.
-pub fn refused_by(refusal: Option<Refusal>, s: Outcome) -> Outcome
-    ensures { told result ≡ refused_by (refusal_told refusal) (told s) }
+// The outcome, refused with a number where nothing is refused before. A public function, which takes any number; so an outcome holds any.
+#[tactic(auto, unfolding(batch_rules::specs::Outcome::told, batch_rules::specs::Numbers::refused_by))]
+pub fn refused_by(number: u8, s: Outcome) -> Outcome
+    ensures { told result ≡ refused_by number (told s) }
 {
-    Outcome {
-        refusal: s.refusal.or(refusal),
-        ..s
+    let refusal = if s.refusal == 0 { number } else { s.refusal };
+    Outcome { refusal, ..s }
+}
+
+// The number of a refusal, 0 for none.
+pub fn number_of(refusal: Option<Refusal>) -> u8
+    ensures { result ≡ refusal_told refusal }
+{
+    match refusal {
+        None => 0,
+        Some(refusal) => u32::from(refusal) as u8,
     }
 }

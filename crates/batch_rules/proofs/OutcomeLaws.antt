@@ -15,7 +15,7 @@ refusal_apart (Some x) (Some y) e = ap Some (refusal_one x y e)
 pub told_apart : ToldApart
 unfolding ToldApart told
 told_apart r s e =
-    let f : r.refusal ≡ s.refusal = refusal_apart r.refusal s.refusal (ap (λ (x : Outcome). x.refusal) e) in
+    let f : r.refusal ≡ s.refusal = ap (λ (x : Outcome). x.refusal) e in
     let i : r.index ≡ s.index = ap (λ (x : Outcome). x.index) e in
     let o : r.orders ≡ s.orders = ap (λ (x : Outcome). x.orders) e in
     let d : r.directory ≡ s.directory = ap (λ (x : Outcome). x.directory) e in

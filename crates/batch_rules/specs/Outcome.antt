@@ -1,4 +1,4 @@
--- What a list of accesses answers, with its refusal in document 01's numbers: the definitions and theorems speak of this record.
+-- What a list of accesses answers: the definitions and theorems speak of this record.
 use Rattle.std.specs.Prelude.{ℕ, ◌≡◌, Option, None, Some}
 use Rattle.order.specs.Refusal.{accepted, refusal_number}
 use Rattle.order.specs.declared.Refusal.{Refusal}
@@ -19,7 +19,7 @@ refusal_told (Some refusal) = refusal_number refusal
 
 -- what the code answers, read as that record
 unfoldable pub told : Answered → Outcome
-told s = record { refusal = refusal_told s.refusal; index = s.index; orders = s.orders; directory = s.directory }
+told s = record { refusal = s.refusal; index = s.index; orders = s.orders; directory = s.directory }
 
 -- it loses nothing
 unfoldable pub ToldApart : Type 0

@@ -2,7 +2,6 @@
 #![tactic(auto)]
 
 use coherence::{Call, Directory};
-use order::Refusal;
 
 // An access as a list holds it: a list is a slice of structs, as document 01 asks and `run_batch` takes it.
 #[derive(Clone, Copy)]
@@ -10,11 +9,12 @@ pub struct Access {
     pub call: Call,
 }
 
-// What a list of accesses answers: on a refusal too, `index` is how many accesses were made, which is the index of the refused one or the list's length,
-// `orders` counts the orders of those made, and `directory` is the one that they leave.
+// What a list of accesses answers. `refusal` is 0 if the whole list was accepted; it is a number, since `batch_outcome::refused_by` takes any. On a
+// refusal too, `index` is how many accesses were made, which is the index of the refused one or the list's length, `orders` counts the orders of those
+// made, and `directory` is the one that they leave.
 #[derive(Clone, Copy)]
 pub struct Outcome {
-    pub refusal: Option<Refusal>,
+    pub refusal: u8,
     pub index: usize,
     pub orders: usize,
     pub directory: Directory,

@@ -36,8 +36,5 @@ pub extern "C" fn trainer_batch(
     put_directory(r, directory);
     *index = r.index as u32;
     *orders = r.orders as u32;
-    match r.refusal {
-        None => 0,
-        Some(refusal) => refusal.into(),
-    }
+    r.refusal.into()
 }

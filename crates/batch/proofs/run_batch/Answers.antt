@@ -6,8 +6,8 @@ use Rattle.batch_rules.specs.Outcome.{told}
 use Rattle.batch.proofs.Underway.{closed, begun, four, next, stops, ends}
 use Rattle.batch.proofs.run_batch.Goals as goal
 
-pub returns-then-is_some : goal.returns-then-is_some
-returns-then-is_some c = closed _ _ _ _ _ _ c.open-opened.ensures (search rules)
+pub returns-then-opened-ne0 : goal.returns-then-opened-ne0
+returns-then-opened-ne0 c = closed _ _ _ _ _ _ c.open-opened.ensures (search rules)
 
 pub loop-index-init : goal.loop-index-init
 loop-index-init c = begun _ _ _ _ _ _ c.open-opened.ensures (search rules)
@@ -19,7 +19,7 @@ overflow_add-orders c =
 
 pub returns-in-Err : goal.returns-in-Err
 unfolding told
-returns-in-Err c = stops c.loop-index.invariant _ c.loop-index-test.true _ _ c.run.ensures.1 c.run.ensures.2 _ c.in-Err.ensures.0
+returns-in-Err c = rw c.number_of.ensures (stops c.loop-index.invariant _ c.loop-index-test.true _ _ c.run.ensures.1 c.run.ensures.2 _ c.in-Err.ensures.0)
 
 pub loop-index-preserved : goal.loop-index-preserved
 loop-index-preserved c = next c.loop-index.invariant _ c.loop-index-test.true _ _ c.run.ensures.1 c.run.ensures.2 _ c.in-Ok.ensures.0

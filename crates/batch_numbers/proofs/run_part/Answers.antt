@@ -51,5 +51,5 @@ overflow_add-made-2 c =
 pub returns : goal.returns
 unfolding count_of told
 returns c =
-    rw (c.refused_by.ensures, c.then_some.ensures, unless_told)
+    rw (c.refused_by.ensures, c.number_of.ensures, c.then_some-refusal.ensures, unless_told)
     (parted _ _ c.args.values.now c.args.memory.now c.args.cache.now c.requires _ _ _ _ _ _ _ c.min-most.ensures c.part_at-count.ensures c.run_array-part.ensures)

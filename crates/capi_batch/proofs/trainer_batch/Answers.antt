@@ -20,18 +20,10 @@ overflow_cast-orders c =
     let h = orders_fit start.directory.now start.memory.now start.cache.now start.accesses.now start.values.now _ _ _ _ (rw d at c.run_numbers-r.ensures) in
     record { fits = omega (arith, h) }
 
-pub returns-in-None : goal.returns-in-None
+pub returns : goal.returns
 unfolding told_outcome
-returns-in-None c =
+returns c =
     let start = c.args in
     let d = c.decode-d.ensures in
     let t = told start.directory.now start.memory.now start.cache.now start.accesses.now start.values.now _ _ _ _ (rw d at c.run_numbers-r.ensures) in
-    (rw c.in-None.is at t.0, t.1, t.2, c.put_directory.ensures ∙ t.3, t.4, t.5, t.6)
-
-pub returns-in-Some : goal.returns-in-Some
-unfolding told_outcome
-returns-in-Some c =
-    let start = c.args in
-    let d = c.decode-d.ensures in
-    let t = told start.directory.now start.memory.now start.cache.now start.accesses.now start.values.now _ _ _ _ (rw d at c.run_numbers-r.ensures) in
-    (c.into.ensures ∙ (rw c.in-Some.is at t.0), t.1, t.2, c.put_directory.ensures ∙ t.3, t.4, t.5, t.6)
+    (c.into.ensures ∙ t.0, t.1, t.2, c.put_directory.ensures ∙ t.3, t.4, t.5, t.6)
