@@ -28,6 +28,11 @@ unfolding start_answer
 start_number g m k (Ok d) e = ap (λ (s : Start). s.refusal) e
 start_number g m k (Err x) e = ap (λ (s : Start). s.refusal) e
 
+-- the directory that an accepted one answers
+pub start_given : (g : Settings) (m k : List ℕ) (d : Directory) → started g (Ok d) ≡ start_answer g m k → d ≡ cold_directory g
+unfolding start_answer
+start_given g m k d e = ap (λ (s : Start). s.directory) e
+
 cold_back : (s t : ℕ) → decoded (encoded (cold_directory (chosen s t))) ≡ cold_directory (chosen s t)
 unfolding cold_directory chosen settings_of
 cold_back s t = inverse.back (cold_directory (chosen s t)) refl refl refl

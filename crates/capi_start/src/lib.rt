@@ -6,7 +6,6 @@ ghost use Rattle.capi_start.specs.Start.{start_returned, start_cache, start_dire
 
 use boards::settings_of;
 use layout::encode;
-use machine::cold_directory;
 use order::Refusal;
 
 // Starts cold with the boards that the set `write_through` spells and with `steal` off (0) or on (1), and writes the directory.
@@ -31,10 +30,15 @@ pub extern "C" fn trainer_cold_start(
         return Refusal::FieldRange.into();
     }
     let settings = settings_of(write_through as u8, steal == 1);
-    // A cold start that the machine refuses has this directory too.
-    encode(cold_directory(settings), directory);
+    // A cold start that the machine refuses has its directory too.
     match machine::cold_start(settings, memory, cache) {
-        Ok(_) => 0,
-        Err(refusal) => refusal.into(),
+        Ok(started) => {
+            encode(started, directory);
+            0
+        }
+        Err(refused) => {
+            encode(refused.directory, directory);
+            refused.refusal.into()
+        }
     }
 }

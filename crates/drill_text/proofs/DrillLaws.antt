@@ -22,6 +22,8 @@ use Rattle.order.specs.Refusal.{first_refusal}
 use Rattle.coherence.specs.Refusal.{start_refusal, size_test, sized}
 use Rattle.coherence.specs.Calls.{started, start_answer, cache_started, answers, answers_cold}
 use Rattle.coherence.proofs.AnswerLaws.{tells_apart}
+use Rattle.machine.specs.declared.StartRefused.{StartRefused}
+use Rattle.machine.specs.Start.{refusal_alone}
 use Rattle.text.specs.Space.{placed}
 use Rattle.text.proofs.SpaceLaws.{placed_room, placed_none}
 use Rattle.reading.specs.Reading.{read_all}
@@ -43,9 +45,14 @@ cleared = refl
 pub started_cache : (m k k' : List ℕ) → m ≡ zero_store → k ≡ zero_store → k' ≡ cache_started m k → k' ≡ zero_store
 started_cache m k k' em ek e = e ∙ rw (em, ek) cleared
 
-pub started_directory : (g : Settings) (r : Result Directory Refusal) (m k : List ℕ) → started g r ≡ start_answer g m k → m ≡ zero_store → k ≡ zero_store → r ≡ Ok (cold_directory g)
+alone_accepted : (r : Result Directory StartRefused) (d : Directory) → refusal_alone r ≡ Ok d → r ≡ Ok d
+alone_accepted (Ok x) d e = cc
+alone_accepted (Err x) d e = cc
+
+pub started_directory : (g : Settings) (r : Result Directory StartRefused) (m k : List ℕ) → started g (refusal_alone r) ≡ start_answer g m k → m ≡ zero_store → k ≡ zero_store
+    → r ≡ Ok (cold_directory g)
 unfolding start_answer start_refusal first_refusal size_test sized zero_store
-started_directory g r m k e em ek = tells_apart.starts g r (Ok (cold_directory g)) (e ∙ rw (em, ek))
+started_directory g r m k e em ek = alone_accepted r (cold_directory g) (tells_apart.starts g (refusal_alone r) (Ok (cold_directory g)) (e ∙ rw (em, ek)))
 
 cold_answers : (cs : List Call) → answers_cold drill_settings zero_store cs ≡ answers (cold_directory drill_settings) zero_store zero_store cs
 unfolding answers_cold zero_store

@@ -6,9 +6,11 @@
 // both would take nine values and give back the holder and the orders.
 #![tactic(auto)]
 
-ghost use Rattle.std.specs.Prelude.{◌≡◌};
+ghost use Rattle.std.specs.Prelude.{◌≡◌, IfErr};
 ghost use Rattle.coherence.specs.declared.Call.TheVariants.{Load, Store, Flush};
+ghost use Rattle.coherence.specs.Slots.{cold_directory};
 ghost use Rattle.coherence.specs.Calls.{answer, memory_after, cache_after, start_answer, cache_started, told, started};
+ghost use Rattle.machine.specs.Start.{refusal_alone};
 
 use blocks::{clear, evict_bytes, fetch_bytes, put_word, word_at};
 use coherence::{Accepted, Call, Directory, Settings, Slot};
@@ -25,15 +27,30 @@ use write_through::store_through;
 // The directory of a cold start, whether or not it is refused.
 pub use slots::cold_directory;
 
+// Why a cold start is refused, and the directory that it has all the same.
+#[derive(Clone, Copy)]
+pub struct StartRefused {
+    pub refusal: Refusal,
+    pub directory: Directory,
+}
+
 // All slots invalid and all sets of holders empty, with the chosen settings, and the cache store all zeros. Refused, it leaves the cache store as it was.
-pub fn cold_start(settings: Settings, memory: &[u8], cache: &mut [u8]) -> Result<Directory, Refusal>
-    ensures { (started settings result ≡ start_answer settings memory.now cache.old) × (cache.new ≡ cache_started memory.now cache.old) }
+pub fn cold_start(
+    settings: Settings,
+    memory: &[u8],
+    cache: &mut [u8],
+) -> Result<Directory, StartRefused>
+    ensures { (started settings (refusal_alone result) ≡ start_answer settings memory.now cache.old) × (cache.new ≡ cache_started memory.now cache.old) × IfErr result (λ e. e.directory ≡ cold_directory settings) }
 {
+    let directory = cold_directory(settings);
     if !is_sized(memory, cache) {
-        return Err(Refusal::WrongSize);
+        return Err(StartRefused {
+            refusal: Refusal::WrongSize,
+            directory,
+        });
     }
     clear(cache);
-    Ok(cold_directory(settings))
+    Ok(directory)
 }
 
 // A load. A refused one leaves all as it was.

@@ -1,14 +1,14 @@
 use mathlib.Core.Path.{◌≡◌, refl, ap, sym, ◌∙◌}
-use Rattle.order.specs.declared.Refusal.{Refusal}
 use Rattle.coherence.specs.declared.Directory.{Directory}
 use native.Mathlib.Omega.{arith}
 use Rattle.std.specs.Prelude.{Result, Ok}
 use Rattle.coherence.specs.Slots.{cold_directory}
+use Rattle.machine.specs.declared.StartRefused.{StartRefused}
 use Rattle.drill_format.specs.Drill.{zero_store, printed}
 use Rattle.drill_text.proofs.DrillLaws.{long_text, started_cache, started_directory, whole_text}
 use Rattle.drill_text.proofs.play.Goals as goal
 
-ok_apart : (d e : Directory) → ◌≡◌ {A = Result Directory Refusal} (Ok d) (Ok e) → d ≡ e
+ok_apart : (d e : Directory) → ◌≡◌ {A = Result Directory StartRefused} (Ok d) (Ok e) → d ≡ e
 ok_apart d e h = cc
 
 pub returns-in_default : goal.returns-in_default

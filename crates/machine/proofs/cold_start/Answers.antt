@@ -10,7 +10,7 @@ pub returns-then-not-is_sized : goal.returns-then-not-is_sized
 unfolding start_answer cache_started
 returns-then-not-is_sized c =
     let p = sym c.is_sized.ensures ∙ c.if-not-is_sized.true in
-    rw (start_tests _ _, p) (refl, refl)
+    rw (start_tests _ _, p) (refl, refl, c.cold_directory-directory.ensures)
 
 pub returns : goal.returns
 unfolding start_answer cache_started
@@ -19,4 +19,4 @@ returns c =
     let k = c.args.cache.now in
     let p = sym c.is_sized.ensures ∙ c.if-not-is_sized.false in
     let z = (sizes_of m k p).cache in
-    rw (start_tests m k, p, c.cold_directory.ensures) (refl, c.clear.ensures ∙ ap (λ (n : ℕ). replicate n 0) z)
+    rw (start_tests m k, p, c.cold_directory-directory.ensures) (refl, c.clear.ensures ∙ ap (λ (n : ℕ). replicate n 0) z, tt)

@@ -1,0 +1,2 @@
+-- What a cold start answers.
+pub mod Start
