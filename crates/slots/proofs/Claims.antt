@@ -88,33 +88,51 @@ pub all_released : (u b : ℕ) (d : Directory) → released_below 4 u b d ≡ ex
 unfolding released_below expelled_at_once
 all_released u b d = refl
 
--- the owner of a block: the first unit that has it EM
-pub owner_found : (d : Directory) (b v : ℕ) → v < 4 → ((u : ℕ) → u < v → modified (slot_at d (place u b)) b ≡ false) → modified (slot_at d (place v b)) b ≡ true
-    → v ≡ owner_of d b
-unfolding owner_of
-owner_found d b v l h e =
-    four (λ v. ((u : ℕ) → u < v → modified (slot_at d (place u b)) b ≡ false) → modified (slot_at d (place v b)) b ≡ true → v ≡ owner_of d b)
+-- ---- the owner of a block: the first of the four units whose slot has it EM
+
+abbrev first_in : Directory → ℕ → ℕ
+first_in d b = first_modified (slot_at d (place 0 b)) (slot_at d (place 1 b)) (slot_at d (place 2 b)) (slot_at d (place 3 b)) b
+
+-- one unit after the other, which finds it, or none
+first_found : (d : Directory) (b v : ℕ) → v < 4 → ((u : ℕ) → u < v → modified (slot_at d (place u b)) b ≡ false) → modified (slot_at d (place v b)) b ≡ true
+    → v ≡ first_in d b
+unfolding first_modified
+first_found d b v l h e =
+    four (λ v. ((u : ℕ) → u < v → modified (slot_at d (place u b)) b ≡ false) → modified (slot_at d (place v b)) b ≡ true → v ≡ first_in d b)
     (λ h e. rw e refl)
     (λ h e. rw (h 0 (omega arith), e) refl)
     (λ h e. rw (h 0 (omega arith), h 1 (omega arith), e) refl)
     (λ h e. rw (h 0 (omega arith), h 1 (omega arith), h 2 (omega arith), e) refl)
     v l h e
 
-pub owner_none : (d : Directory) (b : ℕ) → ((u : ℕ) → u < 4 → modified (slot_at d (place u b)) b ≡ false) → 4 ≡ owner_of d b
-unfolding owner_of
-owner_none d b h = rw (h 0 (omega arith), h 1 (omega arith), h 2 (omega arith), h 3 (omega arith)) refl
+first_none : (d : Directory) (b : ℕ) → ((u : ℕ) → u < 4 → modified (slot_at d (place u b)) b ≡ false) → 4 ≡ first_in d b
+unfolding first_modified
+first_none d b h = rw (h 0 (omega arith), h 1 (omega arith), h 2 (omega arith), h 3 (omega arith)) refl
 
--- and from the four slots in which it has its place
+-- the four slots in which the block has its place
 place_at : (v b s : ℕ) → s ≡ b % 16 → place v b ≡ 16 * v + s
 unfolding place
 place_at v b s h = omega arith
+
+column : (b s : ℕ) → s ≡ b % 16 → (place 0 b ≡ s) × (place 1 b ≡ 16 + s) × (place 2 b ≡ 32 + s) × (place 3 b ≡ 48 + s)
+column b s h = (place_at 0 b s h ∙ omega arith, place_at 1 b s h ∙ omega arith, place_at 2 b s h ∙ omega arith, place_at 3 b s h ∙ omega arith)
 
 pub owner_column : (d : Directory) (b s : ℕ) → s ≡ b % 16
     → first_modified (get_or d.slots s empty_entry).slot (get_or d.slots (16 + s) empty_entry).slot (get_or d.slots (32 + s) empty_entry).slot (get_or d.slots (48 + s) empty_entry).slot b ≡ owner_of d b
 unfolding first_modified owner_of slot_at
 owner_column d b s h =
-    let e₀ : place 0 b ≡ s = place_at 0 b s h ∙ omega arith in
-    let e₁ : place 1 b ≡ 16 + s = place_at 1 b s h ∙ omega arith in
-    let e₂ : place 2 b ≡ 32 + s = place_at 2 b s h ∙ omega arith in
-    let e₃ : place 3 b ≡ 48 + s = place_at 3 b s h ∙ omega arith in
-    rw (e₀, e₁, e₂, e₃) refl
+    let e = column b s h in
+    rw (e.0, e.1, e.2, e.3) refl
+
+first_owner : (d : Directory) (b : ℕ) → first_in d b ≡ owner_of d b
+unfolding slot_at
+first_owner d b =
+    let e = column b (b % 16) refl in
+    rw (e.0, e.1, e.2, e.3) (owner_column d b (b % 16) refl)
+
+pub owner_found : (d : Directory) (b v : ℕ) → v < 4 → ((u : ℕ) → u < v → modified (slot_at d (place u b)) b ≡ false) → modified (slot_at d (place v b)) b ≡ true
+    → v ≡ owner_of d b
+owner_found d b v l h e = first_found d b v l h e ∙ first_owner d b
+
+pub owner_none : (d : Directory) (b : ℕ) → ((u : ℕ) → u < 4 → modified (slot_at d (place u b)) b ≡ false) → 4 ≡ owner_of d b
+owner_none d b h = first_none d b h ∙ first_owner d b
