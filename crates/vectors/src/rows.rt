@@ -41,7 +41,7 @@ impl Row {
     }
 }
 
-// A digit's value. By hand: numbers wrap at 64 bits, and the digits above 9 are capitals alone.
+// A digit's value. By hand: a number may be longer than 64 bits, and the digits above 9 are capitals alone.
 fn digit(letter: u8, base: u64) -> Option<u64> {
     match letter {
         b'0'..=b'9' => Some(u64::from(letter - b'0')),
@@ -50,12 +50,18 @@ fn digit(letter: u8, base: u64) -> Option<u64> {
     }
 }
 
-// The number that the digits are, in 64 bits.
+// The number that the digits are, in 64 bits. In base 10 what stands before a digit is first taken modulo 1844674407370955162, a tenth of 2^64 rounded up.
 fn number(digits: &[u8], base: u64) -> u64 {
     digits
         .iter()
         .filter_map(|&b| digit(b, base))
-        .fold(0u64, |n, d| n.wrapping_mul(base).wrapping_add(d))
+        .fold(0u64, |n, d| {
+            let kept = match base {
+                10 => n % 1844674407370955162,
+                _ => n,
+            };
+            kept.wrapping_mul(base).wrapping_add(d)
+        })
 }
 
 pub(crate) fn put(to: &impl Print, text: &[u8]) -> io::Result<()> {
