@@ -20,6 +20,10 @@ pub fn access_of(item: Record) -> Option<Call>
             value,
         }),
         Record::Flush(unit, block) => Some(Call::Flush { unit, block }),
-        _ => None,
+        Record::Order(_) => None,
+        Record::Answer { .. } => None,
+        Record::Register { .. } => None,
+        Record::Loaded(..) => None,
+        Record::Stamp(_) => None,
     }
 }
