@@ -59,21 +59,12 @@ module _ (n : ℕ) where
   bits_fewest k h = ⊎_elim (λ w. w) (λ w. absurd (let p = (bits_least n).below k w in omega arith)) (le_or_lt (significant_bits n) k)
 
   -- the bits that stand below the leading zeros
-  bits_leading : 0 < n → n < 2 ^ 64 → 64 - count_leading_zeros 64 n ≡ significant_bits n
+  pub bits_leading : 0 < n → n < 2 ^ 64 → 64 - count_leading_zeros 64 n ≡ significant_bits n
   bits_leading p h =
       let (j, e, lo, hi) = leading_top 64 n p h in
       let b : 64 - count_leading_zeros 64 n ≡ suc j = ap (λ (k : ℕ). k - count_leading_zeros 64 n) (sym e) ∙ add-sub_cancel_left (count_leading_zeros 64 n) (suc j) in
       let l : j < significant_bits n = power_order j (significant_bits n) n lo (bits_hold h) in
       omega (arith, b, bits_fewest (suc j) hi)
-
-  -- the rule by the leading zeros, above zero and at it
-  pub count_leading : 0 < n → n < 2 ^ 64 → (64 - count_leading_zeros 64 n + 6) / 7 ≡ group_count n
-  unfolding group_count
-  count_leading p h = let b = bits_leading p h in rw (ne_eqb n 0 (λ z. omega arith)) (omega (arith, b))
-
-pub count_zero : (n : ℕ) → n ≡ 0 → 1 ≡ group_count n
-unfolding group_count
-count_zero n z = rw (eq-eqb n 0 z)
 
 -- ---- the groups of a spelling
 

@@ -7,7 +7,7 @@ ghost use Rattle.number.specs.Number.{spell, spell_all, filled};
 ghost use Rattle.number_writer.specs.GroupCount.{group_count, size_of};
 
 // The groups of a number: its significant bits divided by seven, rounded up; one group for zero. With `.div_ceil(7).max(1)` the size of a record took 1.2 times as long.
-#[tactic(auto, using(crate::proofs::CountLaws::count_leading, crate::proofs::CountLaws::count_zero))]
+#[tactic(auto, unfolding(crate::specs::GroupCount::group_count), using(crate::proofs::CountLaws::bits_leading))]
 fn group_count(n: u64) -> usize
     ensures { result ≡ group_count n }
 {
