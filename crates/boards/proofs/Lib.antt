@@ -1,2 +1,3 @@
 pub mod BoardLaws
+pub mod UnitLaws
 pub mod MapLaws

@@ -1,7 +1,7 @@
 use mathlib.Core.Path.{ap, ◌∙◌}
 use native.Mathlib.Omega.{arith}
 use Rattle.std.specs.Int.{from_bool}
-use Rattle.boards.proofs.BoardLaws.{bits_next, bits_fit, bits_all}
+use Rattle.boards.proofs.UnitLaws.{bits_next, bits_fit, bits_all}
 use Rattle.boards.proofs.set_of.Goals as goal
 
 pub overflow_add-set : goal.overflow_add-set

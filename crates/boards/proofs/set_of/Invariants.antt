@@ -1,6 +1,6 @@
 use mathlib.Core.Path.{◌≡◌}
 use Rattle.numeric.specs.Bits.{from_bits}
-use Rattle.boards.proofs.BoardLaws.{bits}
+use Rattle.boards.proofs.UnitLaws.{bits}
 use Rattle.boards.proofs.set_of.Given as goal
 
 -- the units so far

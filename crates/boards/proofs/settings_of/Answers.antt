@@ -5,7 +5,7 @@ use lib.Dec.{eqb}
 use borrow.Author.Rules.{rules}
 use Rattle.std.specs.Int.Bits.{bit_and}
 use Rattle.boards.specs.Boards.{board_of}
-use Rattle.boards.proofs.BoardLaws.{boards_held}
+use Rattle.boards.proofs.UnitLaws.{boards_held}
 use Rattle.boards.proofs.MapLaws.{mapped}
 use Rattle.boards.proofs.settings_of.Goals as goal
 
