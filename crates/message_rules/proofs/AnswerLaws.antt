@@ -1,4 +1,4 @@
--- Different answers of the code are told differently; and a sequence and its number determine each other.
+-- Different answers of the code are told differently, a refusal with the receiver as it was; and a sequence and its number determine each other.
 use Prim.Native.Nat.{ℕ, ◌≤◌}
 use native.Mathlib.Omega.{arith}
 use mathlib.Core.Path.{◌≡◌, refl, sym, ap}
@@ -10,7 +10,7 @@ use Rattle.order.proofs.RefusalLaws.{refusal_one, number_pos}
 use Rattle.message_rules.specs.declared.Sequence.{Sequence}
 use Rattle.message_rules.specs.declared.Sequence.TheVariants.{Single, First, Middle, Last}
 use Rattle.message_rules.specs.Operation.{sequence_number, sequence_numbered, SequenceNumbers}
-use Rattle.message_rules.specs.Receiver.{Receipt, ReceiptsApart}
+use Rattle.message_rules.specs.Receiver.{Receipt, ReceiptsApart, ToldKeeps}
 use Rattle.message_rules.specs.Sender.{Division, DivisionsApart}
 
 -- ---- answers
@@ -21,6 +21,10 @@ receipts_apart r (Ok a) (Ok b) e = ap (λ (x : Receipt). Ok (record { receiver =
 receipts_apart r (Ok a) (Err y) e = absurd (omega (arith, number_pos y, ap (λ (x : Receipt). x.refusal) e))
 receipts_apart r (Err x) (Ok b) e = absurd (omega (arith, number_pos x, ap (λ (z : Receipt). z.refusal) e))
 receipts_apart r (Err x) (Err y) e = ap Err (refusal_one x y (ap (λ (z : Receipt). z.refusal) e))
+
+pub told_keeps : ToldKeeps
+unfolding ToldKeeps
+told_keeps r e = refl
 
 pub divisions_apart : DivisionsApart
 unfolding DivisionsApart

@@ -34,6 +34,10 @@ receipt_told r (Err refusal) = record { refusal = refusal_number refusal; receiv
 unfoldable pub ReceiptsApart : Type 0
 ReceiptsApart = (r : Receiver) (x y : Result Accepted Refusal) → receipt_told r x ≡ receipt_told r y → x ≡ y
 
+-- "A refusal keeps the receiver's state": the code's is told with the receiver that it was given
+unfoldable pub ToldKeeps : Type 0
+ToldKeeps = (r : Receiver) (e : Refusal) → (receipt_told r (Err e)).receiver ≡ r
+
 -- ---- the tests
 
 -- 10: "a pending state with a sender above 7, an AID above 255 or a count outside 1 to 4,096"
