@@ -2,13 +2,9 @@
 use Prim.Native.Nat.{ℕ, ◌+◌, ◌-◌, ◌≤◌}
 use native.Mathlib.Omega.{arith}
 use mathlib.Core.Path.{◌≡◌, refl, sym, ap, ◌∙◌}
-use mathlib.Core.Bool.{Bool, true, false, cond}
 use mathlib.Core.List.{List, ◌∷◌, ◌++◌}
 use lib.ListN.{length, take, drop, replicate, length-append, length-drop}
 use lib.Seq.{take-append-add, take-append_seam}
-use Rattle.std.specs.Prelude.{Result, Ok, Err}
-use Rattle.order.specs.declared.Refusal.{Refusal}
-use Rattle.order.specs.declared.Refusal.TheVariants.{FieldRange}
 use Rattle.std.proofs.lemmas.List.{take-replicate, drop-replicate}
 use Rattle.tape_format.specs.declared.Record.{Record}
 use Rattle.tape_format.specs.declared.Record.TheVariants as rec
@@ -50,8 +46,3 @@ numbers_spell r count values e =
       long = rw (e.1, p) (length-append ns padding ∙ (let z : List ℕ = replicate 7 0 in let d : length padding ≡ 7 - length ns = length-drop (length ns) z in omega (arith, few r)));
       same = rw (e.0, e.1, p) (take-append_seam ns padding);
     }
-
--- what the test lets pass has its fields in range
-pub passed : (t : Bool) (u : Unit {0}) → ◌≡◌ {A = Result (Unit {0}) Refusal} (Ok u) (cond t (Ok tt) (Err FieldRange)) → t ≡ true
-passed true u e = refl
-passed false u e = cc

@@ -1,8 +1,7 @@
 // Writing records, and how many bytes one takes (document 01, "The tape"; document 02, T-04 and T-06).
 #![tactic(auto)]
 
-ghost use Rattle.std.specs.Prelude.{◌≡◌, ◌∷◌, ◌≤◌, Result, Ok, Err, cond, length, take};
-ghost use Rattle.order.specs.declared.Refusal.TheVariants.{FieldRange};
+ghost use Rattle.std.specs.Prelude.{◌≡◌, ◌∷◌, ◌≤◌, length, take};
 ghost use Rattle.tape_format.specs.Record.{kind_of, fields_of};
 ghost use Rattle.tape_writer.specs.Numbers.{padded};
 ghost use Rattle.tape_format.specs.Write.{valid, written_of, space_after};
@@ -143,23 +142,16 @@ fn valid(item: Record) -> bool
     }
 }
 
-fn check(item: Record) -> Result<(), Refusal>
-    ensures { result ≡ cond (valid item) (Ok tt) (Err FieldRange) }
-{
-    if valid(item) {
-        Ok(())
-    } else {
-        Err(Refusal::FieldRange)
-    }
-}
-
 // How many bytes a record takes: the least space that `write_record` accepts.
 #[tactic(auto, unfolding(tape_format::specs::Size::size_told, tape_format::specs::Size::record_size), using(crate::proofs::NumbersLaws::few))]
 pub fn record_size(item: Record) -> Result<usize, Refusal>
     ensures { result ≡ size_told item }
 {
-    check(item)?;
-    Ok(numbers_size(numbers_of(item).as_slice()))
+    if valid(item) {
+        Ok(numbers_size(numbers_of(item).as_slice()))
+    } else {
+        Err(Refusal::FieldRange)
+    }
 }
 
 // Writes a record at the start of `out`.
@@ -167,7 +159,9 @@ pub fn record_size(item: Record) -> Result<usize, Refusal>
 pub fn write_record(item: Record, out: &mut [u8]) -> Result<usize, Refusal>
     ensures { (result ≡ written_of item (length out.old)) × (out.new ≡ space_after item out.old) }
 {
-    check(item)?;
+    if !valid(item) {
+        return Err(Refusal::FieldRange);
+    }
     let size = write_numbers(numbers_of(item).as_slice(), out);
     if out.len() < size {
         return Err(Refusal::NoRoom);
