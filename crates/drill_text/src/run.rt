@@ -60,15 +60,15 @@ fn run_call(
     }
 }
 
-// One record of the tape.
+// One record of the tape. One that asks no call returns early: as an arm of a `match` it would have the directory copied twice.
 fn take(s: Progress, memory: &mut [u8], cache: &mut [u8], out: &mut [u8], item: Record) -> Progress
     requires { Within s }
     ensures { Took item s memory.old cache.old out.old result memory.new cache.new out.new }
 {
-    match access_of(item) {
-        Some(call) => run_call(s, memory, cache, out, call),
-        None => s,
-    }
+    let Some(call) = access_of(item) else {
+        return s;
+    };
+    run_call(s, memory, cache, out, call)
 }
 
 // All records of the tape, from the machine's state on, and the last line. The answer is how many bytes the text has. The loop stays a function of its own:
