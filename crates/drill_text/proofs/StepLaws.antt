@@ -3,7 +3,7 @@ use Prim.Native.Nat.{ℕ, suc, ◌+◌, ◌≤◌, ◌<◌}
 use native.Mathlib.Nat.{add-zero}
 use native.Mathlib.Omega.{arith}
 use mathlib.Core.Path.{◌≡◌, refl, ap, sym, subst, ◌∙◌}
-use mathlib.Core.List.{List, [], append_assoc}
+use mathlib.Core.List.{List, [], ◌++◌, append_assoc}
 use lib.ListN.{length}
 use Rattle.coherence.specs.declared.Call.{Call}
 use Rattle.coherence.specs.declared.Directory.{Directory}
@@ -18,7 +18,6 @@ use Rattle.reading.specs.Reading.{Ending, and_more, and_calls, calls_of, access_
 use Rattle.drill_format.specs.Line.{access_part, orders_part, call_line, lines}
 use Rattle.drill_format.specs.Drill.{last_line}
 use Rattle.drill_text.specs.Writing.{Puts, text_from, Called, Short, Took, line_most}
-use Rattle.drill_text.proofs.WritingLaws.{both}
 use Rattle.drill_text.proofs.LineLaws.{line_short}
 
 -- nothing is put
@@ -28,23 +27,23 @@ nothing o a = record { next = sym (add-zero a); room = refl; bytes = λ h. refl 
 pub answered_few : (r : Answer) (d : Directory) (m k : List ℕ) (c : Call) → r ≡ answer d m k c → r.orders.count ≤ 4
 answered_few r d m k c e = rw e (answers_orders d m k c).few
 
--- a call of the machine, and its line in two parts
-pub called : (c : Call) (s : Progress) (r : Answer) (m k o o₁ o₂ m' k' : List ℕ) (v n : ℕ) (d : Directory) (next at : ℕ)
+-- a call of the machine, and its line
+pub called : (c : Call) (s : Progress) (r : Answer) (m k o o' m' k' : List ℕ) (v n t : ℕ) (d : Directory) (at : ℕ)
     → r ≡ answer s.directory m k c → m' ≡ memory_after s.directory m k c → k' ≡ cache_after s.directory m k c
-    → (v ≡ r.value) × (n ≡ r.orders.count) × (d ≡ r.directory)
-    → Puts (access_part c v) o s.at o₁ next → Puts (orders_part n) o₁ next o₂ at → v < 4294967296
-    → Called c s m k o (record { directory = d; at = at; calls = s.calls + 1; orders = s.orders + n }) m' k' o₂
+    → (v ≡ r.value) × (n ≡ r.orders.count) × (d ≡ r.directory) → t ≡ s.orders + n
+    → Puts (access_part c v ++ orders_part n) o s.at o' at → v < 4294967296
+    → Called c s m k o (record { directory = d; at = at; calls = s.calls + 1; orders = t }) m' k' o'
 unfolding call_line
-called c s r m k o o₁ o₂ m' k' v n d next at e em ek f p q b =
+called c s r m k o o' m' k' v n t d at e em ek f g p b =
     let w : v ≡ (answer s.directory m k c).value = f.0 ∙ ap (λ (x : Answer). x.value) e in
     let i : n ≡ length (orders_in (answer s.directory m k c)) = f.1 ∙ ap (λ (x : Answer). x.orders.count) e ∙ sym (answers_orders s.directory m k c).counted in
     record {
       directory = f.2 ∙ ap (λ (x : Answer). x.directory) e;
       memory = em;
       cache = ek;
-      line = rw (i, w) at (both p q);
+      line = rw (i, w) at p;
       calls = refl;
-      orders = ap (λ (x : ℕ). s.orders + x) i;
+      orders = g ∙ ap (λ (x : ℕ). s.orders + x) i;
       few = rw (answers_orders s.directory m k c).counted (answers_orders s.directory m k c).few;
       value = rw w at b;
     }

@@ -39,7 +39,7 @@ fn put_head(out: &mut [u8], at: usize, name: &[u8], unit: u8, target: u32) -> us
 }
 
 #[tactic(auto, unfolding(drill_format::specs::Line::access_part, text::specs::Space::ascii))]
-pub(crate) fn put_access(out: &mut [u8], at: usize, call: Call, loaded: u32) -> usize
+fn put_access(out: &mut [u8], at: usize, call: Call, loaded: u32) -> usize
     requires { at < 2 ^ 37 }
     ensures { Puts (access_part call loaded) out.old at out.new result × (result ≤ at + 83) × (loaded < 4294967296) }
 {
@@ -60,13 +60,22 @@ pub(crate) fn put_access(out: &mut [u8], at: usize, call: Call, loaded: u32) -> 
     }
 }
 
-pub(crate) fn put_orders(out: &mut [u8], at: usize, orders: u64) -> usize
+fn put_orders(out: &mut [u8], at: usize, orders: u64) -> usize
     requires { at < 2 ^ 38 }
     ensures { Puts (orders_part orders) out.old at out.new result × (result ≤ at + 29) }
 {
     let second = put(out, at, b" orders");
     let third = put_field(out, second, orders);
     put(out, third, b"\n")
+}
+
+// The line of a call, with the value and the number of orders that it answered.
+pub(crate) fn put_call(out: &mut [u8], at: usize, call: Call, value: u32, orders: u64) -> usize
+    requires { at < 2 ^ 37 }
+    ensures { Puts (access_part call value ++ orders_part orders) out.old at out.new result × (result ≤ at + 112) × (value < 4294967296) }
+{
+    let next = put_access(out, at, call, value);
+    put_orders(out, next, orders)
 }
 
 // A line of two numbers, each after a word, and a last word.

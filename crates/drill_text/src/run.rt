@@ -1,14 +1,12 @@
 // The records of a tape run in order on the machine, and the text that comes of it.
-ghost use Rattle.std.specs.Prelude.{◌≡◌, ◌≤◌, length};
-ghost use Rattle.coherence.specs.Calls.{told};
+ghost use Rattle.std.specs.Prelude.{◌≤◌, length};
 ghost use Rattle.reading.specs.Reading.{read_all};
 ghost use Rattle.drill_format.specs.Drill.{tape_most, text_most};
 ghost use Rattle.drill_text.specs.Writing.{Puts, Within, Called, Took, text_from};
 
-use crate::line::{put_access, put_orders, put_refused, put_total};
-use coherence::{Accepted, Call, Directory};
+use crate::line::{put_call, put_refused, put_total};
+use coherence::{Call, Directory};
 use machine::run;
-use order::Refusal;
 use reading::access_of;
 use tape::read_record;
 use tape_format::Record;
@@ -22,22 +20,7 @@ pub struct Progress {
     pub orders: u64,
 }
 
-// The value and the number of orders that a call's line shows, and the directory after the call. A refused call has neither, and leaves the directory.
-#[tactic(auto, unfolding(coherence::specs::Calls::packed))]
-fn shown(before: Directory, answer: Result<Accepted, Refusal>) -> (u32, u64, Directory)
-    ensures { (result.0 ≡ (told before answer).value) × (result.1 ≡ (told before answer).orders.count) × (result.2 ≡ (told before answer).directory) }
-{
-    match answer {
-        Ok(accepted) => (
-            accepted.value,
-            accepted.orders.count as u64,
-            accepted.directory,
-        ),
-        Err(_) => (0, 0, before),
-    }
-}
-
-// One call of the machine, and its line.
+// One call of the machine, and its line. A refused call has no value and no orders, and leaves the directory; it returns early, for speed as in `take`.
 fn run_call(
     s: Progress,
     memory: &mut [u8],
@@ -48,12 +31,18 @@ fn run_call(
     requires { Within s }
     ensures { Called call s memory.old cache.old out.old result memory.new cache.new out.new }
 {
-    let answer = run(s.directory, memory, cache, call);
-    let (value, count, directory) = shown(s.directory, answer);
-    let next = put_access(out, s.at, call, value);
-    let at = put_orders(out, next, count);
+    let Ok(accepted) = run(s.directory, memory, cache, call) else {
+        let at = put_call(out, s.at, call, 0, 0);
+        return Progress {
+            at,
+            calls: s.calls + 1,
+            ..s
+        };
+    };
+    let count = accepted.orders.count as u64;
+    let at = put_call(out, s.at, call, accepted.value, count);
     Progress {
-        directory,
+        directory: accepted.directory,
         at,
         calls: s.calls + 1,
         orders: s.orders + count,
