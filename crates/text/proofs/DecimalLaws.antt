@@ -66,11 +66,8 @@ last_digit front xs n h f e d =
     ∙ ap (λ (t : List ℕ). t ++ ((48 + n % 10) ∷ [])) d ∙ sym (more_digits n h f)
 
 -- alone
-pub only_digit : (xs : List ℕ) (n : ℕ) → n < 10 → length xs ≡ length (decimal n) → set xs (length xs - 1) (48 + n % 10) ≡ decimal n
-only_digit xs n h e =
-    let k : n % 10 ≡ n = omega arith in
-    let one : length xs ≡ 1 = e ∙ length_one n h in
-    set_one xs (length xs - 1) (48 + n % 10) one (omega arith) ∙ rw k (sym (one_digit n h))
+pub only_digit : (xs : List ℕ) (n : ℕ) → n < 10 → length xs ≡ length (decimal n) → set xs 0 (48 + n) ≡ decimal n
+only_digit xs n h e = set_one xs 0 (48 + n) (e ∙ length_one n h) refl ∙ sym (one_digit n h)
 
 -- a number below 10 ^ suc k has at most suc k digits
 short : (f k n : ℕ) → n < 10 ^ suc k → length (digits_in f n) ≤ suc k

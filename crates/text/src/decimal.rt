@@ -17,17 +17,19 @@ pub fn decimal_length(n: u64) -> usize
     }
 }
 
-// Fills `out` with the digits of `n`.
+// Fills `out` with the digits of `n`. The first has an arm of its own: one line for all digits takes twice the instructions.
 #[tactic(auto, using(crate::proofs::DecimalLaws::one_digit, crate::proofs::DecimalLaws::more_digits, crate::proofs::DecimalLaws::length_one, crate::proofs::DecimalLaws::length_more))]
 fn put_digits(out: &mut [u8], n: u64)
     requires { length out.old ≡ length (decimal n) }
     ensures { out.new ≡ decimal n }
 {
-    let last = out.len() - 1;
     if 9 < n {
+        let last = out.len() - 1;
         put_digits(&mut out[..last], n / 10);
+        out[last] = b'0' + (n % 10) as u8;
+    } else {
+        out[0] = b'0' + n as u8;
     }
-    out[last] = b'0' + (n % 10) as u8;
 }
 
 // Puts the digits of `n` into `out` from the place `at` on, where all of them have room. The answer is how many they are.
