@@ -1,10 +1,12 @@
 -- Laws of bytes put into a space.
-use Prim.Native.Nat.{ℕ, suc, ◌+◌, ◌≤◌}
+use Prim.Native.Nat.{ℕ, suc, ◌+◌, ◌≤◌, ◌<◌}
 use native.Mathlib.Nat.{add-zero, add-suc, suc-add}
-use mathlib.Core.Path.{◌≡◌, sym, ◌∙◌}
+use native.Mathlib.Numerals.{add-one}
+use native.Mathlib.Omega.{arith}
+use mathlib.Core.Path.{◌≡◌, refl, sym, ◌∙◌}
 use mathlib.Core.List.{List, [], ◌∷◌, ◌++◌, append_assoc}
-use lib.ListN.{length, set}
-use lib.Seq.{sets, sets-eq, drop-drop}
+use lib.ListN.{length, set, get_or, take}
+use lib.Seq.{sets, sets-eq, take-suc, length-take-le, drop-drop}
 use mathlib.Core.Bool.{Bool, true, false}
 use lib.Dec.{leb}
 use borrow.Author.Tests.{leb-true}
@@ -18,6 +20,10 @@ sets_append (x ∷ a) xs b at = sets_append a (set xs at x) b (suc at) ∙ simp 
 
 pub sets_snoc : (l xs : List ℕ) (at b : ℕ) → sets xs at (l ++ (b ∷ [])) ≡ set (sets xs at l) (at + length l) b
 sets_snoc l xs at b = sets_append l xs (b ∷ []) at
+
+-- one byte more of a word, behind those before it
+pub sets_next : (word xs : List ℕ) (at i : ℕ) → i < length word → set (sets xs at (take i word)) (at + i) (get_or word i 0) ≡ sets xs at (take (i + 1) word)
+sets_next word xs at i h = sym (rw (add-one, take-suc word i 0 h, sets_snoc, length-take-le i word (omega arith)) refl)
 
 -- where the bytes have room they are put, and else none is
 pub placed_room : (xs : List ℕ) (at : ℕ) (s : List ℕ) → leb (at + length s) (length xs) ≡ true → placed xs at s ≡ sets xs at s
