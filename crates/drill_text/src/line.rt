@@ -39,7 +39,7 @@ fn put_head(out: &mut [u8], at: usize, name: &[u8], unit: u8, target: u32) -> us
 }
 
 #[tactic(auto, unfolding(drill_format::specs::Line::access_part, text::specs::Space::ascii))]
-fn put_access(out: &mut [u8], at: usize, call: Call, loaded: u32) -> usize
+pub(crate) fn put_access(out: &mut [u8], at: usize, call: Call, loaded: u32) -> usize
     requires { at < 2 ^ 37 }
     ensures { Puts (access_part call loaded) out.old at out.new result × (result ≤ at + 83) × (loaded < 4294967296) }
 {
@@ -60,7 +60,7 @@ fn put_access(out: &mut [u8], at: usize, call: Call, loaded: u32) -> usize
     }
 }
 
-fn put_orders(out: &mut [u8], at: usize, orders: u64) -> usize
+pub(crate) fn put_orders(out: &mut [u8], at: usize, orders: u64) -> usize
     requires { at < 2 ^ 38 }
     ensures { Puts (orders_part orders) out.old at out.new result × (result ≤ at + 29) }
 {
