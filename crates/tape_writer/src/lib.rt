@@ -21,6 +21,16 @@ pub struct Numbers {
 }
 
 impl Numbers {
+    #[tactic(auto, using(crate::proofs::NumbersLaws::padded_part))]
+    fn new<const N: usize>(numbers: [u64; N]) -> Numbers
+        requires { N ≤ 7 }
+        ensures { (result.count ≡ N) × (result.values ≡ padded numbers.entry) }
+    {
+        let mut values = [0; 7];
+        values[..N].copy_from_slice(&numbers);
+        Numbers { count: N, values }
+    }
+
     fn as_slice(&self) -> &[u64]
         requires { self.now.count ≤ 7 }
         ensures { result.now ≡ take self.now.count self.now.values }
@@ -29,24 +39,17 @@ impl Numbers {
     }
 }
 
-// The numbers of a record: its kind and its fields. Each kind writes all seven: with a constructor that pads them the size of a record took longer.
-#[tactic(auto, unfolding(tape_format::specs::Record::kind_of, tape_format::specs::Record::fields_of, crate::specs::Numbers::padded), using(order::proofs::FlagLaws::flag_from_bool))]
+// The numbers of a record: its kind and its fields.
+#[tactic(auto, unfolding(tape_format::specs::Record::kind_of, tape_format::specs::Record::fields_of), using(order::proofs::FlagLaws::flag_from_bool))]
 pub fn numbers_of(item: Record) -> Numbers
     ensures { (result.count ≡ length (kind_of item ∷ fields_of item)) × (result.values ≡ padded (kind_of item ∷ fields_of item)) }
 {
     match item {
-        Record::Load(unit, address) => Numbers {
-            count: 3,
-            values: [0, unit.into(), address.into(), 0, 0, 0, 0],
-        },
-        Record::Store(unit, address, value) => Numbers {
-            count: 4,
-            values: [1, unit.into(), address.into(), value.into(), 0, 0, 0],
-        },
-        Record::Flush(unit, block) => Numbers {
-            count: 3,
-            values: [2, unit.into(), block.into(), 0, 0, 0, 0],
-        },
+        Record::Load(unit, address) => Numbers::new([0, unit.into(), address.into()]),
+        Record::Store(unit, address, value) => {
+            Numbers::new([1, unit.into(), address.into(), value.into()])
+        }
+        Record::Flush(unit, block) => Numbers::new([2, unit.into(), block.into()]),
         Record::Order(
             Order {
                 unit,
@@ -54,27 +57,19 @@ pub fn numbers_of(item: Record) -> Numbers
                 block,
                 retried,
             },
-        ) => Numbers {
-            count: 5,
-            values: [
-                3,
-                unit.into(),
-                u8::from(command).into(),
-                block.into(),
-                retried.into(),
-                0,
-                0,
-            ],
-        },
+        ) => Numbers::new([
+            3,
+            unit.into(),
+            u8::from(command).into(),
+            block.into(),
+            retried.into(),
+        ]),
         Record::Answer {
             from,
             to,
             aid,
             code,
-        } => Numbers {
-            count: 5,
-            values: [4, from.into(), to.into(), aid.into(), code.into(), 0, 0],
-        },
+        } => Numbers::new([4, from.into(), to.into(), aid.into(), code.into()]),
         Record::Register {
             from,
             to,
@@ -82,26 +77,17 @@ pub fn numbers_of(item: Record) -> Numbers
             write,
             ra,
             bct,
-        } => Numbers {
-            count: 7,
-            values: [
-                5,
-                from.into(),
-                to.into(),
-                aid.into(),
-                write.into(),
-                ra.into(),
-                bct.into(),
-            ],
-        },
-        Record::Loaded(unit, value) => Numbers {
-            count: 3,
-            values: [6, unit.into(), value.into(), 0, 0, 0, 0],
-        },
-        Record::Stamp(cycles) => Numbers {
-            count: 2,
-            values: [8, cycles, 0, 0, 0, 0, 0],
-        },
+        } => Numbers::new([
+            5,
+            from.into(),
+            to.into(),
+            aid.into(),
+            write.into(),
+            ra.into(),
+            bct.into(),
+        ]),
+        Record::Loaded(unit, value) => Numbers::new([6, unit.into(), value.into()]),
+        Record::Stamp(cycles) => Numbers::new([8, cycles]),
     }
 }
 
