@@ -16,8 +16,10 @@ use tape_writer::record_size;
 fn size_from(numbers: &[u64]) -> Result<usize, Refusal>
     ensures { (number_of result ≡ size_returned (record_from numbers.now)) × ((w : ℕ) → count_or result w ≡ size_left (record_from numbers.now) w) }
 {
-    let record = record_from(numbers)?;
-    record_size(record)
+    match record_from(numbers) {
+        Ok(record) => record_size(record),
+        Err(refusal) => Err(refusal),
+    }
 }
 
 // How many bytes the record takes that seven numbers name.
